@@ -129,65 +129,35 @@ first_none None n None e = (refl, refl)
 first_none None n (Some limit) e = absurd (cc)
 first_none (Some x) n b e = absurd (cc)
 
-role_fact : (c : Counts) (role : Role) (t : Token) → breach_of_role c role ≡ None → RoleFact role c (tally c role t)
-role_fact c r.Plain t e = record {
-  inputs = omega arith;
-  registers = omega arith;
-  memories = omega arith;
-  states = omega arith;
-  commands =
-      omega arith;
-  tokens = refl;
-  brackets = refl;
+plainly : {i r m s n : ℕ} {c d : Counts} → d.inputs ≡ c.inputs + i → d.registers ≡ c.registers + r → d.memories ≡ c.memories + m
+    → d.states ≡ c.states + s → d.commands ≡ c.commands + n → d.tokens ≡ 0 → d.brackets ≡ 0 → Plainly i r m s n c d
+plainly inputs registers memories states commands tokens brackets = record {
+  inputs = inputs;
+  registers = registers;
+  memories = memories;
+  states = states;
+  commands = commands;
+  tokens = tokens;
+  brackets = brackets;
 }
-role_fact c r.Input t e = (
-  record {
-    inputs = refl;
-    registers = omega arith;
-    memories = omega arith;
-    states = omega arith;
-    commands = omega arith;
-    tokens =
-        refl;
-    brackets = refl;
-  },
-  above_none 64 (c.inputs + 1) l.Inputs e,
-)
-role_fact c r.Register t e = (
-  record {
-    inputs = omega arith;
-    registers = refl;
-    memories = omega arith;
-    states = omega arith;
-    commands = omega arith;
-    tokens =
-        refl;
-    brackets = refl;
-  },
-  above_none 256 (c.registers + 1) l.Registers e,
-)
-role_fact c r.Memory t e = (
-  record {
-    inputs = omega arith;
-    registers = omega arith;
-    memories = refl;
-    states = omega arith;
-    commands = omega arith;
-    tokens =
-        refl;
-    brackets = refl;
-  },
-  above_none 16 (c.memories + 1) l.Memories e,
-)
+
+role_fact : (c : Counts) (role : Role) (t : Token) → breach_of_role c role ≡ None → RoleFact role c (tally c role t)
+role_fact c r.Plain t e = plainly (omega arith) (omega arith) (omega arith) (omega arith) (omega arith) refl refl
+role_fact c r.Input t e =
+    (plainly refl (omega arith) (omega arith) (omega arith) (omega arith) refl refl, above_none 64 (c.inputs + 1) l.Inputs e)
+role_fact c r.Register t e =
+    (plainly (omega arith) refl (omega arith) (omega arith) (omega arith) refl refl, above_none 256 (c.registers + 1) l.Registers e)
+role_fact c r.Memory t e =
+    (plainly (omega arith) (omega arith) refl (omega arith) (omega arith) refl refl, above_none 16 (c.memories + 1) l.Memories e)
 role_fact c (r.State depth) t e =
     let b = both_none (above 256 (c.states + 1) l.States) (above 16 depth l.Nesting) e in (
-      record { inputs = omega arith; registers = omega arith; memories = omega arith; states = refl; commands = omega arith; tokens = refl; brackets = refl },
+      plainly (omega arith) (omega arith) (omega arith) refl (omega arith) refl refl,
       above_none 256 (c.states + 1) l.States b.0,
       above_none 16 depth l.Nesting b.1,
     )
 role_fact c (r.Command depth) t e =
     let b = both_none (above 4096 (c.commands + 1) l.Commands) (above 64 depth l.Blocks) e in (
-      record { inputs = omega arith; registers = omega arith; memories = omega arith; states = omega arith; commands = refl; tokens = refl; brackets = refl },
+      plainly (omega arith) (omega arith) (omega arith) (omega arith) refl refl refl,
       above_none 4096 (c.commands + 1) l.Commands b.0,
       above_none 64 depth l.Blocks b.1,
     )

@@ -32,12 +32,7 @@ target_parts p = by_ahead (ahead p.left) refl where
   by_ahead (a.Sign j.OpenBracket) e =
       target_write strictly p e ∙ row_then (between_row r.Plain j.OpenBracket r.Plain j.CloseBracket) new_value_row p
       ∙ sym (ap (λ o. o >>= reads_row new_value_row) (cell_row p e))
-  by_ahead (a.Sign _) e = missing _ e (λ same. absurd (cc))
-  by_ahead (a.Word x) e = missing _ e (λ same. absurd (cc))
-  by_ahead a.Name e = missing _ e (λ same. absurd (cc))
-  by_ahead a.Number e = missing _ e (λ same. absurd (cc))
-  by_ahead a.Sized e = missing _ e (λ same. absurd (cc))
-  by_ahead a.Nothing e = missing _ e (λ same. absurd (cc))
+  by_ahead _ e = missing _ e (λ same. absurd (cc))
 
 pub assign_rows : (depth : ℕ) (p : Stage) → command_head (ahead p.left) ≡ h.Name
     → reads (s.simple depth) p ≡ (reads (s.any_name (r.Command depth)) p >>= λ q. (reads s.cell_part q >>= reads_row new_value_row))

@@ -112,9 +112,6 @@ nothing_left [] e = refl
 nothing_left (t ∷ ts) e = absurd (some t.kind e) where
   some : (i : Kind) → ahead_of i ≡ a.Nothing → ⊥
   some (k.Word x) e = cc
-  some (k.Sign x) e = cc
-  some (k.Name x) e = cc
-  some (k.Number x) e = cc
-  some (k.Sized x n) e = cc
+  some _ e = cc
 
 pub ruleset nothings = (nothing_left)

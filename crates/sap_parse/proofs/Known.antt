@@ -11,11 +11,12 @@ use Rattle.sap_lex.specs.declared.token.Kind.{Kind}
 use Rattle.sap_lex.specs.declared.token.Sign.{Sign as SignOf}
 use Rattle.sap_lex.specs.declared.token.Token.{Token}
 use Rattle.sap_tree.specs.declared.word.Word.{Word as WordOf}
+use Rattle.sap_parse.proofs.Laws as laws
 use Rattle.sap_walk.specs.Limits.{passed}
 use Rattle.sap_walk.specs.Rows.{◌or◌, firsts}
-use Rattle.sap_walk.specs.Walk.{begins, empty_here, cannot_stand, at_token, ◌>>=◌, steps}
-use Rattle.sap_walk.proofs.Rows.{all_empty, becomes, end_as, read_as}
-use Rattle.sap_walk.proofs.Walking.{bind_bind, bind_same, read_empty, read_skip, read_stop, read_end, read_take}
+use Rattle.sap_walk.specs.Walk.{begins, empty_here, cannot_stand, at_token, ◌>>=◌}
+use Rattle.sap_walk.proofs.Rows.{all_empty}
+use Rattle.sap_walk.proofs.Walking.{read_take}
 
 -- the kind of the first token that is left
 abbrev pub kind_in : List Token → Option Kind
@@ -51,46 +52,31 @@ R = read_by leniently
 abbrev pub Rs : List Symbol → Stage → Outcome
 Rs = steps_by leniently
 
-steps_are : (σ : List Symbol) (p : Stage) → steps (table leniently) σ p ≡ Rs σ p
-unfolding read_by
-steps_are [] p = refl
-steps_are (x ∷ σ) p = bind_same (R x p) (steps (table leniently) σ) (Rs σ) (steps_are σ)
-
 pub steps_append : (σ τ : List Symbol) (p : Stage) → Rs (σ ++ τ) p ≡ (Rs σ p >>= Rs τ)
-steps_append [] τ p = refl
-steps_append (x ∷ σ) τ p = bind_same (R x p) (Rs (σ ++ τ)) (λ q. Rs σ q >>= Rs τ) (steps_append σ τ) ∙ sym (bind_bind (R x p) (Rs σ) (Rs τ))
+steps_append = laws.steps_append leniently
 
 -- symbols that stand at the token's kind for others
 
 pub at_kind : (x : Symbol) (σ : List Symbol) (kind : Kind) (p : Stage) → first_kind p ≡ Some kind → next x kind ≡ firsts (λ y. next y kind) σ → R x p ≡ Rs σ p
-unfolding read_by
 at_kind x σ kind p e row = by_left p.left refl where
   by_left : (left : List Token) → p.left ≡ left → R x p ≡ Rs σ p
   by_left [] none = absurd (let z : None ≡ Some kind = sym (ap kind_in none) ∙ e in cc)
   by_left (t ∷ ts) some =
       let same : t.kind ≡ kind = let z : Some t.kind ≡ Some kind = sym (ap kind_in some) ∙ e in cc in
-      let here : next x t.kind ≡ firsts (λ y. next y t.kind) σ = subst (λ i. next x i ≡ firsts (λ y. next y i) σ) (sym same) row in
-      ap (λ l. R x (record { past = p.past; left = l })) some
-      ∙ read_as (table leniently) x σ t ts p.past here
-      ∙ steps_are σ (record { past = p.past; left = t ∷ ts })
-      ∙ ap (λ l. Rs σ (record { past = p.past; left = l })) (sym some)
+      laws.read_at leniently x σ p t ts some (subst (λ i. next x i ≡ firsts (λ y. next y i) σ) (sym same) row)
 
 pub at_token_of : (x : Symbol) (σ : List Symbol) {p q : Stage} {role : Role} {kind : Kind} → IsToken p role kind q → next x kind ≡ firsts (λ y. next y kind) σ → R x p ≡ Rs σ p
 at_token_of x σ {p} {kind = kind} h row = at_kind x σ kind p (first_is h) row
 
 pub at_none : (x : Symbol) (σ : List Symbol) (p : Stage) → first_kind p ≡ None → may_be_empty x ≡ all_empty (table leniently) σ → R x p ≡ Rs σ p
-unfolding read_by
-at_none x σ p e same = by_left p.left refl where
-  by_left : (left : List Token) → p.left ≡ left → R x p ≡ Rs σ p
-  by_left [] none =
-      ap (λ l. R x (record { past = p.past; left = l })) none ∙ end_as (table leniently) x σ p.past same ∙ steps_are σ (record { past = p.past; left = [] })
-      ∙ ap (λ l. Rs σ (record { past = p.past; left = l })) (sym none)
-  by_left (t ∷ ts) some = absurd (let z : Some t.kind ≡ None = sym (ap kind_in some) ∙ e in cc)
+at_none x σ p e same = laws.read_none leniently x σ p (none p.left e) same where
+  none : (left : List Token) → kind_in left ≡ None → left ≡ []
+  none [] e = refl
+  none (t ∷ ts) e = absurd (cc)
 
 -- symbols that stand for others everywhere
 pub stands_for : (x : Symbol) (σ : List Symbol) → ((i : Kind) → next x i ≡ firsts (λ y. next y i) σ) → may_be_empty x ≡ all_empty (table leniently) σ → (p : Stage) → R x p ≡ Rs σ p
-unfolding read_by
-stands_for x σ row e p = becomes (table leniently) x σ (λ t. row t.kind) e p ∙ steps_are σ p
+stands_for x σ row e p = laws.read_if leniently x σ e p (λ t ts left. row t.kind)
 
 -- single tokens
 
@@ -120,13 +106,7 @@ number_reads {role = role} h = token_reads (s.number role) h refl
 -- what is left out
 
 pub skipped : (x : Symbol) (p : Stage) → may_be_empty x ≡ true → ((i : Kind) → first_kind p ≡ Some i → next x i ≡ empty_here) → R x p ≡ Ok p
-unfolding read_by
-skipped x p e row = by_left p.left refl where
-  by_left : (left : List Token) → p.left ≡ left → R x p ≡ Ok p
-  by_left [] none = ap (λ l. R x (record { past = p.past; left = l })) none ∙ read_empty (table leniently) x p.past e ∙ ap (λ l. Ok (record { past = p.past; left = l })) (sym none)
-  by_left (t ∷ ts) some =
-      ap (λ l. R x (record { past = p.past; left = l })) some ∙ read_skip (table leniently) x t ts p.past (row t.kind (ap kind_in some))
-      ∙ ap (λ l. Ok (record { past = p.past; left = l })) (sym some)
+skipped x p e row = laws.skips leniently x e p (λ t ts left. row t.kind (ap kind_in left))
 
 -- what is read, and may not be empty, takes the first token
 
@@ -138,7 +118,6 @@ pub record Taken (x : Symbol) (p : Stage) : Type 0 where
   pub row : next x kind ≡ begins role behind
 
 pub takes : (x : Symbol) (p q : Stage) → may_be_empty x ≡ false → ((i : Kind) → next x i ≢ empty_here) → R x p ≡ Ok q → Taken x p
-unfolding read_by
 takes x p q e full h = by_left p.left refl where
   ok_not : {a : Stage} (o : Outcome) → o ≡ Ok q → o ≡ Err (at_token a) → ⊥
   ok_not o f g = cc
@@ -146,8 +125,8 @@ takes x p q e full h = by_left p.left refl where
   by_next : (t : Token) (ts : List Token) → p.left ≡ t ∷ ts → (n : Row) → next x t.kind ≡ n → Taken x p
   by_next t ts some (begins role σ) w = record { kind = t.kind; here = ap kind_in some; role = role; behind = σ; row = w }
   by_next t ts some empty_here w = absurd (full t.kind w)
-  by_next t ts some cannot_stand w = absurd (ok_not (R x p) h (ap (λ l. R x (record { past = p.past; left = l })) some ∙ read_stop (table leniently) x t ts p.past w))
+  by_next t ts some cannot_stand w = absurd (ok_not (R x p) h (laws.stops_at leniently x p t ts some w))
 
   by_left : (left : List Token) → p.left ≡ left → Taken x p
-  by_left [] none = absurd (ok_not (R x p) h (ap (λ l. R x (record { past = p.past; left = l })) none ∙ read_end (table leniently) x p.past e))
+  by_left [] none = absurd (ok_not (R x p) h (laws.stops leniently x e p (λ t ts some. let z : [] ≡ t ∷ ts = sym none ∙ some in absurd (cc))))
   by_left (t ∷ ts) some = by_next t ts some (next x t.kind) refl

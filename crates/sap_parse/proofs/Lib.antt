@@ -1,5 +1,6 @@
 pub mod Fronts
 pub mod Single
+pub mod Full
 pub mod Laws
 pub mod ExprLaws
 pub mod IndexLaws

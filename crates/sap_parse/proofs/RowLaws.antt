@@ -11,9 +11,10 @@ use Rattle.sap_lex.specs.declared.token.Sign.TheVariants as j
 use Rattle.sap_tree.specs.declared.word.Word.TheVariants as w
 use Rattle.sap_parse.proofs.ExprLaws.{braces_steps, choice_there, paren_steps, slice_steps, zext_steps}
 use Rattle.sap_parse.proofs.IndexLaws.{bracket_slice}
+use Rattle.sap_parse.proofs.Laws.{steps_append}
 use Rattle.sap_parse.proofs.TagLaws.{level_at_steps, tag_of_steps}
 use Rattle.sap_walk.specs.Walk.{◌>>=◌}
-use Rattle.sap_walk.proofs.Walking.{bind_bind, bind_same}
+use Rattle.sap_walk.proofs.Walking.{bind_same}
 
 pub row_steps : (σ : List Symbol) (p : Stage) → reads_row σ p ≡ steps_by strictly σ p
 unfolding reads_row
@@ -26,10 +27,7 @@ row_more x σ p = refl
 -- a row, and what comes behind it
 pub row_then : (σ τ : List Symbol) (p : Stage) → steps_by strictly (σ ++ τ) p ≡ (reads_row σ p >>= steps_by strictly τ)
 unfolding reads_row
-row_then [] τ p = refl
-row_then (x ∷ σ) τ p =
-    bind_same (reads x p) (steps_by strictly (σ ++ τ)) (λ q. steps_by strictly σ q >>= steps_by strictly τ) (row_then σ τ)
-    ∙ sym (bind_bind (reads x p) (steps_by strictly σ) (steps_by strictly τ))
+row_then = steps_append strictly
 
 -- two rows, one behind the other
 pub row_row : (σ τ : List Symbol) (p : Stage) → steps_by strictly (σ ++ τ) p ≡ (reads_row σ p >>= reads_row τ)

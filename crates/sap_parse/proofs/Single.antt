@@ -1,5 +1,5 @@
 -- What the walk does with a symbol that is a single token.
-use Rattle.sap_lemmas.proofs.Common.{◌≡◌, ◌≢◌, ℕ, List, [], ◌∷◌, Option, Some, None, Result, Ok, Err, Bool, true, false, refl, sym, ap, ◌∙◌, arith, nat_tests, ◌==◌, if◌then◌else◌, IfErr, IfOk}
+use Rattle.sap_lemmas.proofs.Common.{◌≡◌, ◌≢◌, ℕ, List, [], ◌∷◌, Option, Some, None, Result, Ok, Err, Bool, true, false, refl, sym, ap, ◌∙◌, arith, nat_tests, ◌==◌, get_or, test_of_same, IfErr, IfOk}
 use Rattle.sap_parse.specs.Limits.{breach, tally}
 use Rattle.sap_parse.specs.Reading.{Breaks, Goes, IsBroken, Passes, ahead, ahead_of, front_name, front_number, front_sized, name_in, number_in, read_by, reads, sized_in, strictly, table}
 use Rattle.sap_parse.specs.Stages.{Stage, IsToken}
@@ -46,133 +46,53 @@ refused s p full h = by_left p.left refl where
       ap (λ l. reads s (record { past = p.past; left = l })) e ∙ read_stop (table strictly) s t ts p.past (h t ts e)
       ∙ ap (λ l. Err (at_token (record { past = p.past; left = l }))) (sym e)
 
-pub same_number : (n : ℕ) → (n == n) ≡ true
-same_number n = grind (arith, nat_tests)
+-- what differs has different numbers, where the number gives it back
+apart : {X : Type 0} (code : X → ℕ) (by : ℕ → X) → ((x : X) → by (code x) ≡ x) → (x y : X) → x ≢ y → (code x == code y) ≡ false
+apart code by back x y ne = by_test (code x == code y) refl where
+  by_test : (b : Bool) → (code x == code y) ≡ b → b ≡ false
+  by_test true e = (let same : code x ≡ code y = grind (arith, nat_tests) in absurd (ne (sym (back x) ∙ ap by same ∙ back y)))
+  by_test false e = refl
 
 pub sign_by : ℕ → SignOf
-sign_by n = if n == 0 then s.Becomes else (if n ==
-    1 then s.Equal else (if n == 2 then s.NotEqual else (if n ==
-    3 then s.LessOrEqual else (if n == 4 then s.ShiftLeft else (if n ==
-    5 then s.ShiftRight else (if n == 6 then s.OpenParen else (if n ==
-    7 then s.CloseParen else (if n == 8 then s.OpenBrace else (if n ==
-    9 then s.CloseBrace else (if n == 10 then s.OpenBracket else (if n ==
-    11 then s.CloseBracket else (if n == 12 then s.Colon else (if n ==
-    13 then s.Semicolon else (if n == 14 then s.Comma else (if n ==
-    15 then s.Question else (if n == 16 then s.Is else (if n ==
-    17 then s.Less else (if n == 18 then s.Plus else (if n ==
-    19 then s.Minus else (if n == 20 then s.Star else (if n == 21 then s.Ampersand else (if n == 22 then s.Bar else (if n == 23 then s.Caret else (s.Tilde))))))))))))))))))))))))
+sign_by n = get_or (s.Becomes ∷ s.Equal ∷ s.NotEqual ∷ s.LessOrEqual ∷ s.ShiftLeft ∷ s.ShiftRight ∷ s.OpenParen ∷ s.CloseParen ∷ s.OpenBrace
+    ∷ s.CloseBrace ∷ s.OpenBracket ∷ s.CloseBracket ∷ s.Colon ∷ s.Semicolon ∷ s.Comma ∷ s.Question ∷ s.Is ∷ s.Less ∷ s.Plus ∷ s.Minus
+    ∷ s.Star ∷ s.Ampersand ∷ s.Bar ∷ s.Caret ∷ []) n s.Tilde
 
 pub sign_back : (x : SignOf) → sign_by (sign_number x) ≡ x
 unfolding sign_by
 sign_back s.Becomes = refl
-sign_back s.Equal = refl
-sign_back s.NotEqual = refl
-sign_back s.LessOrEqual = refl
-sign_back s.ShiftLeft = refl
-sign_back s.ShiftRight = refl
-sign_back s.OpenParen = refl
-sign_back s.CloseParen = refl
-sign_back s.OpenBrace = refl
-sign_back s.CloseBrace = refl
-sign_back s.OpenBracket = refl
-sign_back s.CloseBracket = refl
-sign_back s.Colon = refl
-sign_back s.Semicolon = refl
-sign_back s.Comma = refl
-sign_back s.Question = refl
-sign_back s.Is = refl
-sign_back s.Less = refl
-sign_back s.Plus = refl
-sign_back s.Minus = refl
-sign_back s.Star = refl
-sign_back s.Ampersand = refl
-sign_back s.Bar = refl
-sign_back s.Caret = refl
-sign_back s.Tilde = refl
+sign_back _ = refl
 
-signs_apart : (x y : SignOf) → x ≢ y → (sign_number x == sign_number y) ≡ false
-signs_apart x y ne = by_test (sign_number x == sign_number y) refl where
-  by_test : (b : Bool) → (sign_number x == sign_number y) ≡ b → b ≡ false
-  by_test true e = (let same : sign_number x ≡ sign_number y = grind (arith, nat_tests) in absurd (ne (sym (sign_back x) ∙ ap sign_by same ∙ sign_back y)))
-  by_test false e = refl
+pub word_by : ℕ → WordOf
+word_by n = get_or (w.Input ∷ w.Reg ∷ w.Mem ∷ w.State ∷ w.Dynamic ∷ w.Enforced ∷ w.Under ∷ w.If ∷ w.Else ∷ w.Goto ∷ w.Fall ∷ w.SetTag
+    ∷ w.Otherwise ∷ w.Tag ∷ w.Level ∷ w.Join ∷ w.Zext ∷ w.Then ∷ w.Case ∷ w.Sapper ∷ []) n w.Two
 
-word_by : ℕ → WordOf
-word_by n = if n == 0 then w.Input else (if n ==
-    1 then w.Reg else (if n == 2 then w.Mem else (if n ==
-    3 then w.State else (if n == 4 then w.Dynamic else (if n ==
-    5 then w.Enforced else (if n == 6 then w.Under else (if n ==
-    7 then w.If else (if n == 8 then w.Else else (if n ==
-    9 then w.Goto else (if n == 10 then w.Fall else (if n ==
-    11 then w.SetTag else (if n == 12 then w.Otherwise else (if n ==
-    13 then w.Tag else (if n == 14 then w.Level else (if n ==
-    15 then w.Join else (if n == 16 then w.Zext else (if n == 17 then w.Then else (if n == 18 then w.Case else (if n == 19 then w.Sapper else (w.Two))))))))))))))))))))
-
-word_back : (x : WordOf) → word_by (word_number x) ≡ x
+pub word_back : (x : WordOf) → word_by (word_number x) ≡ x
 unfolding word_by
 word_back w.Input = refl
-word_back w.Reg = refl
-word_back w.Mem = refl
-word_back w.State = refl
-word_back w.Dynamic = refl
-word_back w.Enforced = refl
-word_back w.Under = refl
-word_back w.If = refl
-word_back w.Else = refl
-word_back w.Goto = refl
-word_back w.Fall = refl
-word_back w.SetTag = refl
-word_back w.Otherwise = refl
-word_back w.Tag = refl
-word_back w.Level = refl
-word_back w.Join = refl
-word_back w.Zext = refl
-word_back w.Then = refl
-word_back w.Case = refl
-word_back w.Sapper = refl
-word_back w.Two = refl
-
-words_apart : (x y : WordOf) → x ≢ y → (word_number x == word_number y) ≡ false
-words_apart x y ne = by_test (word_number x == word_number y) refl where
-  by_test : (b : Bool) → (word_number x == word_number y) ≡ b → b ≡ false
-  by_test true e = (let same : word_number x ≡ word_number y = grind (arith, nat_tests) in absurd (ne (sym (word_back x) ∙ ap word_by same ∙ word_back y)))
-  by_test false e = refl
+word_back _ = refl
 
 -- what stands at the front
 
 pub kind_ahead : (i : Kind) (j : SignOf) → ahead_of i ≡ a.Sign j → i ≡ k.Sign j
 kind_ahead (k.Sign i) j e = cc
-kind_ahead (k.Word i) j e = absurd (cc)
-kind_ahead (k.Name i) j e = absurd (cc)
-kind_ahead (k.Number i) j e = absurd (cc)
-kind_ahead (k.Sized i n) j e = absurd (cc)
+kind_ahead _ j e = absurd (cc)
 
 pub word_kind_ahead : (i : Kind) (j : WordOf) → ahead_of i ≡ a.Word j → i ≡ k.Word j
 word_kind_ahead (k.Word i) j e = cc
-word_kind_ahead (k.Sign i) j e = absurd (cc)
-word_kind_ahead (k.Name i) j e = absurd (cc)
-word_kind_ahead (k.Number i) j e = absurd (cc)
-word_kind_ahead (k.Sized i n) j e = absurd (cc)
+word_kind_ahead _ j e = absurd (cc)
 
 number_kind : (i : Kind) (n : ℕ) → number_in i ≡ Some n → i ≡ k.Number n
 number_kind (k.Number i) n e = cc
-number_kind (k.Word i) n e = absurd (cc)
-number_kind (k.Sign i) n e = absurd (cc)
-number_kind (k.Name i) n e = absurd (cc)
-number_kind (k.Sized i m) n e = absurd (cc)
+number_kind _ n e = absurd (cc)
 
 name_kind : (i : Kind) (n : List ℕ) → name_in i ≡ Some n → i ≡ k.Name n
 name_kind (k.Name i) n e = cc
-name_kind (k.Word i) n e = absurd (cc)
-name_kind (k.Sign i) n e = absurd (cc)
-name_kind (k.Number i) n e = absurd (cc)
-name_kind (k.Sized i m) n e = absurd (cc)
+name_kind _ n e = absurd (cc)
 
 sized_kind : (i : Kind) (v : ℕ × ℕ) → sized_in i ≡ Some v → i ≡ k.Sized v.0 v.1
 sized_kind (k.Sized i m) v e = (let same : (i, m) ≡ v = cc in ap (λ (x : ℕ × ℕ). k.Sized x.0 x.1) same)
-sized_kind (k.Word i) v e = absurd (cc)
-sized_kind (k.Sign i) v e = absurd (cc)
-sized_kind (k.Name i) v e = absurd (cc)
-sized_kind (k.Number i) v e = absurd (cc)
+sized_kind _ v e = absurd (cc)
 
 pub ahead_front : {left : List Token} {x : Ahead} (t : Token) (ts : List Token) → ahead left ≡ x → left ≡ t ∷ ts → ahead_of t.kind ≡ x
 unfolding ahead
@@ -196,14 +116,11 @@ token_is {t = t} passes e = record { token = t; left = passes.left; past = passe
 -- signs
 
 pub next_sign : (role : Role) (j : SignOf) (i : Kind) → i ≡ k.Sign j → next (sign role j) i ≡ begins role []
-next_sign role j i e = ap (next (sign role j)) e ∙ ap (if_same role) (same_number (sign_number j))
+next_sign role j i e = ap (next (sign role j)) e ∙ ap (if_same role) (test_of_same (sign_number j))
 
 pub next_not_sign : (role : Role) (j : SignOf) (i : Kind) → ahead_of i ≢ a.Sign j → next (sign role j) i ≡ cannot_stand
-next_not_sign role j (k.Sign i) ne = ap (if_same role) (signs_apart i j (λ e. ne (ap a.Sign e)))
-next_not_sign role j (k.Word i) ne = refl
-next_not_sign role j (k.Name i) ne = refl
-next_not_sign role j (k.Number i) ne = refl
-next_not_sign role j (k.Sized i n) ne = refl
+next_not_sign role j (k.Sign i) ne = ap (if_same role) (apart sign_number sign_by sign_back i j (λ e. ne (ap a.Sign e)))
+next_not_sign role j _ ne = refl
 
 pub sign_is : (p q : Stage) (role : Role) (j : SignOf) (t : Token) → ahead p.left ≡ a.Sign j → Passes p role t q → IsToken p role (k.Sign j) q
 sign_is p q role j t e passes = token_is passes (kind_ahead t.kind j (ahead_front t q.left e passes.left))
@@ -226,14 +143,11 @@ pub ruleset signs = (sign_is, sign_read, sign_broken, sign_refused)
 -- words
 
 pub next_word : (role : Role) (j : WordOf) (i : Kind) → i ≡ k.Word j → next (word role j) i ≡ begins role []
-next_word role j i e = ap (next (word role j)) e ∙ ap (if_same role) (same_number (word_number j))
+next_word role j i e = ap (next (word role j)) e ∙ ap (if_same role) (test_of_same (word_number j))
 
 pub next_not_word : (role : Role) (j : WordOf) (i : Kind) → ahead_of i ≢ a.Word j → next (word role j) i ≡ cannot_stand
-next_not_word role j (k.Word i) ne = ap (if_same role) (words_apart i j (λ e. ne (ap a.Word e)))
-next_not_word role j (k.Sign i) ne = refl
-next_not_word role j (k.Name i) ne = refl
-next_not_word role j (k.Number i) ne = refl
-next_not_word role j (k.Sized i n) ne = refl
+next_not_word role j (k.Word i) ne = ap (if_same role) (apart word_number word_by word_back i j (λ e. ne (ap a.Word e)))
+next_not_word role j _ ne = refl
 
 pub word_is : (p q : Stage) (role : Role) (j : WordOf) (t : Token) → ahead p.left ≡ a.Word j → Passes p role t q → IsToken p role (k.Word j) q
 word_is p q role j t e passes = token_is passes (word_kind_ahead t.kind j (ahead_front t q.left e passes.left))
@@ -253,10 +167,7 @@ pub ruleset words = (word_is, word_read, word_broken, word_refused)
 
 next_not_number : (role : Role) (i : Kind) → number_in i ≡ None → next (number role) i ≡ cannot_stand
 next_not_number role (k.Number n) e = absurd (cc)
-next_not_number role (k.Word i) e = refl
-next_not_number role (k.Sign i) e = refl
-next_not_number role (k.Name i) e = refl
-next_not_number role (k.Sized i n) e = refl
+next_not_number role _ e = refl
 
 pub number_is : (p q : Stage) (role : Role) (n : ℕ) (t : Token) → front_number p.left ≡ Some n → Passes p role t q → IsToken p role (k.Number n) q
 number_is p q role n t e passes = token_is passes (number_kind t.kind n (number_front t q.left e passes.left))
@@ -276,10 +187,7 @@ pub ruleset numbers = (number_is, number_read, number_broken, number_refused)
 
 next_not_name : (role : Role) (i : Kind) → name_in i ≡ None → next (any_name role) i ≡ cannot_stand
 next_not_name role (k.Name n) e = absurd (cc)
-next_not_name role (k.Word i) e = refl
-next_not_name role (k.Sign i) e = refl
-next_not_name role (k.Number i) e = refl
-next_not_name role (k.Sized i n) e = refl
+next_not_name role _ e = refl
 
 pub name_is : (p q : Stage) (role : Role) (n : List ℕ) (t : Token) → front_name p.left ≡ Some n → Passes p role t q → IsToken p role (k.Name n) q
 name_is p q role n t e passes = token_is passes (name_kind t.kind n (name_front t q.left e passes.left))
@@ -299,10 +207,7 @@ pub ruleset names = (name_is, name_read, name_broken, name_refused)
 
 next_not_sized : (role : Role) (i : Kind) → sized_in i ≡ None → next (sized role) i ≡ cannot_stand
 next_not_sized role (k.Sized n m) e = absurd (cc)
-next_not_sized role (k.Word i) e = refl
-next_not_sized role (k.Sign i) e = refl
-next_not_sized role (k.Name i) e = refl
-next_not_sized role (k.Number i) e = refl
+next_not_sized role _ e = refl
 
 pub sized_is : (p q : Stage) (role : Role) (v : ℕ × ℕ) (t : Token) → front_sized p.left ≡ Some v → Passes p role t q → IsToken p role (k.Sized v.0 v.1) q
 sized_is p q role v t e passes = token_is passes (sized_kind t.kind v (sized_front t q.left e passes.left))
@@ -320,40 +225,32 @@ pub ruleset sizeds = (sized_is, sized_read, sized_broken, sized_refused)
 
 -- whatever passing it answers
 
+goes : {A : Type 0} (s : Symbol) (r : Result A Fault) (old new : Stage) (role : Role)
+    → ((t : Token) → Passes old role t new → reads s old ≡ Ok new) → ((limit : Limit) → Breaks old role limit → reads s old ≡ Err (at_limit limit old))
+    → IfOk r (λ x. (t : Token) × Passes old role t new) → IfErr r (IsBroken old role new) → Goes s old r new
+goes s (Ok x) old new role read broken passes breaks = read passes.0 passes.1
+goes s (Err (f.Limit limit)) old new role read broken passes breaks = broken limit breaks.0 ∙ ap (λ p. Err (at_limit limit p)) (sym breaks.1)
+goes s (Err _) old new role read broken passes breaks = absurd breaks
+
 pub sign_goes : {A : Type 0} (r : Result A Fault) (old new : Stage) (role : Role) (j : SignOf) → ahead old.left ≡ a.Sign j
     → IfOk r (λ x. (t : Token) × Passes old role t new) → IfErr r (IsBroken old role new) → Goes (sign role j) old r new
-sign_goes (Ok x) old new role j e passes breaks = sign_read old new role j passes.0 e passes.1
-sign_goes (Err f.Token) old new role j e passes breaks = absurd breaks
-sign_goes (Err f.Memory) old new role j e passes breaks = absurd breaks
-sign_goes (Err (f.Limit limit)) old new role j e passes breaks = sign_broken old role j limit e breaks.0 ∙ ap (λ p. Err (at_limit limit p)) (sym breaks.1)
+sign_goes r old new role j e = goes (sign role j) r old new role (λ t. sign_read old new role j t e) (λ limit. sign_broken old role j limit e)
 
 pub word_goes : {A : Type 0} (r : Result A Fault) (old new : Stage) (role : Role) (j : WordOf) → ahead old.left ≡ a.Word j
     → IfOk r (λ x. (t : Token) × Passes old role t new) → IfErr r (IsBroken old role new) → Goes (word role j) old r new
-word_goes (Ok x) old new role j e passes breaks = word_read old new role j passes.0 e passes.1
-word_goes (Err f.Token) old new role j e passes breaks = absurd breaks
-word_goes (Err f.Memory) old new role j e passes breaks = absurd breaks
-word_goes (Err (f.Limit limit)) old new role j e passes breaks = word_broken old role j limit e breaks.0 ∙ ap (λ p. Err (at_limit limit p)) (sym breaks.1)
+word_goes r old new role j e = goes (word role j) r old new role (λ t. word_read old new role j t e) (λ limit. word_broken old role j limit e)
 
 pub number_goes : {A : Type 0} (r : Result A Fault) (old new : Stage) (role : Role) (n : ℕ) → front_number old.left ≡ Some n
     → IfOk r (λ x. (t : Token) × Passes old role t new) → IfErr r (IsBroken old role new) → Goes (number role) old r new
-number_goes (Ok x) old new role n e passes breaks = number_read old new role n passes.0 e passes.1
-number_goes (Err f.Token) old new role n e passes breaks = absurd breaks
-number_goes (Err f.Memory) old new role n e passes breaks = absurd breaks
-number_goes (Err (f.Limit limit)) old new role n e passes breaks = number_broken old role n limit e breaks.0 ∙ ap (λ p. Err (at_limit limit p)) (sym breaks.1)
+number_goes r old new role n e = goes (number role) r old new role (λ t. number_read old new role n t e) (λ limit. number_broken old role n limit e)
 
 pub sized_goes : {A : Type 0} (r : Result A Fault) (old new : Stage) (role : Role) (v : ℕ × ℕ) → front_sized old.left ≡ Some v
     → IfOk r (λ x. (t : Token) × Passes old role t new) → IfErr r (IsBroken old role new) → Goes (sized role) old r new
-sized_goes (Ok x) old new role v e passes breaks = sized_read old new role v passes.0 e passes.1
-sized_goes (Err f.Token) old new role v e passes breaks = absurd breaks
-sized_goes (Err f.Memory) old new role v e passes breaks = absurd breaks
-sized_goes (Err (f.Limit limit)) old new role v e passes breaks = sized_broken old role v limit e breaks.0 ∙ ap (λ p. Err (at_limit limit p)) (sym breaks.1)
+sized_goes r old new role v e = goes (sized role) r old new role (λ t. sized_read old new role v t e) (λ limit. sized_broken old role v limit e)
 
 pub name_goes : {A : Type 0} (r : Result A Fault) (old new : Stage) (role : Role) (n : List ℕ) → front_name old.left ≡ Some n
     → IfOk r (λ x. (t : Token) × Passes old role t new) → IfErr r (IsBroken old role new) → Goes (any_name role) old r new
-name_goes (Ok x) old new role n e passes breaks = name_read old new role n passes.0 e passes.1
-name_goes (Err f.Token) old new role n e passes breaks = absurd breaks
-name_goes (Err f.Memory) old new role n e passes breaks = absurd breaks
-name_goes (Err (f.Limit limit)) old new role n e passes breaks = name_broken old role n limit e breaks.0 ∙ ap (λ p. Err (at_limit limit p)) (sym breaks.1)
+name_goes r old new role n e = goes (any_name role) r old new role (λ t. name_read old new role n t e) (λ limit. name_broken old role n limit e)
 
 pub token_tree : {A : Type 0} (r : Result A Fault) (old new : Stage) (role : Role) (kind : Kind) → ((t : Token) → Passes old role t new → IsToken old role kind new)
     → IfOk r (λ x. (t : Token) × Passes old role t new) → IfOk r (λ x. IsToken old role kind new)

@@ -48,9 +48,7 @@ returns-in-Err-Token-clause-fault c = λ no.
     (c.new-tokens.ensures ∙ ap at_start c.as_slice.ensures) c.design.ensures.goes (cc) c.fault_place.ensures
 
 pub returns-in-Err-Token-clause-refused : goal.returns-in-Err-Token-clause-refused
-returns-in-Err-Token-clause-refused c = λ no design t. not_both c.args.source.now design _ t (
-    fault_at_token c.args.source.now c.in_ok-list.list c.new-tokens.result c.design.new.tokens c.fault_place.result c.design.result (omega arith) c.in_ok-list.ensures.ok
-    (c.new-tokens.ensures ∙ ap at_start c.as_slice.ensures) c.design.ensures.goes (cc) c.fault_place.ensures)
+returns-in-Err-Token-clause-refused c = λ no design t. not_both c.args.source.now design _ t (returns-in-Err-Token-clause-fault c no)
 
 pub returns-in-Err-Limit-clause-fault : goal.returns-in-Err-Limit-clause-fault
 returns-in-Err-Limit-clause-fault c = λ no.
@@ -58,9 +56,7 @@ returns-in-Err-Limit-clause-fault c = λ no.
     c.in_ok-list.ensures.ok (c.new-tokens.ensures ∙ ap at_start c.as_slice.ensures) c.design.ensures.goes (cc) c.fault_place-in-Err-Limit.ensures
 
 pub returns-in-Err-Limit-clause-refused : goal.returns-in-Err-Limit-clause-refused
-returns-in-Err-Limit-clause-refused c = λ no design t. not_both c.args.source.now design _ t (
-    fault_at_limit c.args.source.now c.in_ok-list.list c.new-tokens.result c.design.new.tokens c.fault_place-in-Err-Limit.result c.in-Err-Limit.limit c.design.result (omega arith)
-    c.in_ok-list.ensures.ok (c.new-tokens.ensures ∙ ap at_start c.as_slice.ensures) c.design.ensures.goes (cc) c.fault_place-in-Err-Limit.ensures)
+returns-in-Err-Limit-clause-refused c = λ no design t. not_both c.args.source.now design _ t (returns-in-Err-Limit-clause-fault c no)
 
 pub returns-clause-fault : goal.returns-clause-fault
 returns-clause-fault c = λ no. absurd (no refl)
