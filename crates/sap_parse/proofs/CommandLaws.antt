@@ -16,7 +16,7 @@ use Rattle.sap_lex.specs.declared.token.Kind.{Kind}
 use Rattle.sap_lex.specs.declared.token.Sign.TheVariants as j
 use Rattle.sap_lex.specs.declared.token.Token.{Token}
 use Rattle.sap_tree.specs.declared.word.Word.TheVariants as w
-use Rattle.sap_parse.proofs.Laws.{at_sign, at_word, chosen_row, same_if, sign_missing, sign_then, sign_there, skips, step, step_if, step_more, stops, word_missing, word_then, word_there}
+use Rattle.sap_parse.proofs.Laws.{at_sign, at_word, chosen_row, same_if, sign_missing, sign_then, sign_there, skips, step_if, step_more, stops, word_missing, word_then, word_there}
 use Rattle.sap_parse.proofs.Single.{ahead_back}
 use Rattle.sap_walk.specs.Rows.{push}
 use Rattle.sap_walk.specs.Walk.{empty_here, cannot_stand, at_token}
@@ -75,24 +75,8 @@ arms_rows depth _ = refl
 module _ (enter : Enter) where
   -- straight productions
 
-  pub set_tag_steps : (depth : ℕ) (p : Stage)
-      → read_by enter (s.set_tag depth) p ≡ steps_by enter (s.word (r.Command depth) w.SetTag ∷ s.sign r.Plain j.OpenParen
-      ∷ s.any_name r.Plain ∷ s.cell_part ∷ s.sign r.Plain j.Comma ∷ s.texpr ∷ s.sign r.Plain j.CloseParen ∷ []) p
-  set_tag_steps depth = word_then enter (s.set_tag depth) (r.Command depth) w.SetTag _ (λ i. refl) refl
-
   pub goto_steps : (depth : ℕ) (p : Stage) → read_by enter (s.goto depth) p ≡ steps_by enter (s.word (r.Command depth) w.Goto ∷ s.any_name r.Plain ∷ []) p
   goto_steps depth = word_then enter (s.goto depth) (r.Command depth) w.Goto _ (λ i. refl) refl
-
-  pub if_steps : (depth : ℕ) (p : Stage)
-      → read_by enter (s.if_command depth) p ≡ steps_by enter (s.word (r.Command depth) w.If ∷ s.sign r.Plain j.OpenParen ∷ s.expr
-      ∷ s.sign r.Plain j.CloseParen ∷ s.block (depth + 1) ∷ s.else_part (depth + 1) ∷ []) p
-  if_steps depth = word_then enter (s.if_command depth) (r.Command depth) w.If _ (λ i. refl) refl
-
-  pub case_steps : (depth : ℕ) (p : Stage)
-      → read_by enter (s.case_command depth) p
-      ≡ steps_by enter (s.word (r.Command depth) w.Case ∷ s.sign r.Plain j.OpenParen ∷ s.expr ∷ s.sign r.Plain j.CloseParen
-      ∷ s.sign r.Plain j.OpenBrace ∷ s.arm (depth + 1) ∷ s.arms (depth + 1) ∷ s.sign r.Plain j.CloseBrace ∷ []) p
-  case_steps depth = word_then enter (s.case_command depth) (r.Command depth) w.Case _ (λ i. refl) refl
 
   pub block_steps : (depth : ℕ) (p : Stage) → read_by enter (s.block depth) p ≡ steps_by enter (s.sign r.Plain j.OpenBrace ∷ s.cmds depth ∷ s.sign r.Plain j.CloseBrace ∷ []) p
   block_steps depth = sign_then enter (s.block depth) r.Plain j.OpenBrace _ (λ i. refl) refl
@@ -232,9 +216,6 @@ module _ (enter : Enter) where
 
   pub constants_missing : (p : Stage) → ahead p.left ≢ a.Sign j.Comma → read_by enter s.constants p ≡ Ok p
   constants_missing = sign_missing enter s.constants r.Plain j.Comma _ (λ i. refl) refl
-
-  pub arm_steps : (depth : ℕ) (p : Stage) → read_by enter (s.arm depth) p ≡ steps_by enter (s.constant ∷ s.constants ∷ s.sign r.Plain j.Colon ∷ s.block depth ∷ []) p
-  arm_steps depth = step enter (s.arm depth) s.constant _ (λ i. refl) refl refl
 
   chosen_arms : (depth : ℕ) (x : Bool) (p : Stage) → is_constant (primary_of (ahead p.left)) ≡ x
       → (t : Token) (ts : List Token) → p.left ≡ t ∷ ts → next (s.arms depth) t.kind ≡ arms_row depth x t.kind

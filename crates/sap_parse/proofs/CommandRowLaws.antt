@@ -12,8 +12,8 @@ use Rattle.sap_parse.specs.declared.cursor.Ahead.{Ahead}
 use Rattle.sap_parse.specs.declared.role.Role.TheVariants as r
 use Rattle.sap_lex.specs.declared.token.Sign.TheVariants as j
 use Rattle.sap_tree.specs.declared.word.Word.TheVariants as w
-use Rattle.sap_parse.proofs.CommandLaws.{arm_steps, case_steps, cell_part_missing, cell_part_there, else_there, ending_decided, ending_handled, if_steps, set_tag_steps, simple_name, target_assign, target_write}
-use Rattle.sap_parse.proofs.RowLaws.{row_row, row_steps, row_then}
+use Rattle.sap_parse.proofs.CommandLaws.{cell_part_missing, cell_part_there, else_there, ending_decided, ending_handled, simple_name, target_assign, target_write}
+use Rattle.sap_parse.proofs.RowLaws.{rest, row_first, row_row, row_steps, row_then}
 use Rattle.sap_walk.specs.Walk.{◌>>=◌}
 use Rattle.sap_walk.proofs.Walking.{bind_pure, bind_same}
 
@@ -43,17 +43,20 @@ assign_rows depth p e =
 
 pub set_tag_rows : (depth : ℕ) (p : Stage) → reads (s.set_tag depth) p ≡ (reads_row (tag_place_row depth) p >>= λ q. (reads s.cell_part q >>= reads_row new_tag_row))
 unfolding reads_row
-set_tag_rows depth p = set_tag_steps strictly depth p ∙ row_then (tag_place_row depth) (s.cell_part ∷ new_tag_row) p
+set_tag_rows depth = row_first (s.set_tag depth) (s.word (r.Command depth) w.SetTag) (rest (tag_place_row depth)) (s.cell_part ∷ new_tag_row) (λ i. refl) refl refl
 
 pub arm_rows : (depth : ℕ) (p : Stage) → reads (s.arm depth) p ≡ (reads_row constants_row p >>= steps_by strictly (s.block depth ∷ []))
-arm_rows depth p = arm_steps strictly depth p ∙ row_then constants_row (s.block depth ∷ []) p
+arm_rows depth = row_first (s.arm depth) s.constant (rest constants_row) (s.block depth ∷ []) (λ i. refl) refl refl
 
 pub if_rows : (depth : ℕ) (p : Stage)
     → reads (s.if_command depth) p ≡ (reads_row (asked_row (r.Command depth) w.If r.Plain r.Plain) p >>= steps_by strictly (s.block (depth + 1) ∷ s.else_part (depth + 1) ∷ []))
-if_rows depth p = if_steps strictly depth p ∙ row_then (asked_row (r.Command depth) w.If r.Plain r.Plain) (s.block (depth + 1) ∷ s.else_part (depth + 1) ∷ []) p
+if_rows depth = row_first (s.if_command depth) (s.word (r.Command depth) w.If) (rest (asked_row (r.Command depth) w.If r.Plain r.Plain))
+    (s.block (depth + 1) ∷ s.else_part (depth + 1) ∷ []) (λ i. refl) refl refl
 
 pub case_rows : (depth : ℕ) (p : Stage) → reads (s.case_command depth) p ≡ (reads_row (asked_row (r.Command depth) w.Case r.Plain r.Plain) p >>= reads_row (arms_row (depth + 1)))
-case_rows depth p = case_steps strictly depth p ∙ row_row (asked_row (r.Command depth) w.Case r.Plain r.Plain) (arms_row (depth + 1)) p
+unfolding reads_row
+case_rows depth = row_first (s.case_command depth) (s.word (r.Command depth) w.Case) (rest (asked_row (r.Command depth) w.Case r.Plain r.Plain))
+    (arms_row (depth + 1)) (λ i. refl) refl refl
 
 pub else_row : (depth : ℕ) (p : Stage) → ahead p.left ≡ a.Word w.Else → reads (s.else_part (depth + 1)) p ≡ reads_row (behind_row w.Else depth) p
 else_row depth p e = else_there strictly (depth + 1) p e ∙ sym (row_steps _ p)

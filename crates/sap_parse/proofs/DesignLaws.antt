@@ -1,10 +1,10 @@
 -- What the symbols of declarations and states read.
-use Rattle.std.proofs.Common.{◌≡◌, ◌≢◌, ◌+◌, ℕ, List, [], ◌∷◌, Ok, Err, refl, ap, ◌∙◌}
+use Rattle.std.proofs.Common.{◌≡◌, ◌≢◌, ℕ, List, [], ◌∷◌, Ok, Err, refl, ap, ◌∙◌}
 use Rattle.sap_parse.specs.Choices.{declaration_head}
 use Rattle.sap_parse.specs.Reading.{Enter, ahead, ahead_of, read_by, steps_by}
 use Rattle.sap_parse.specs.Stages.{Stage}
 use Rattle.sap_parse.specs.Table as s
-use Rattle.sap_parse.specs.Table.{Row, design_symbols, next}
+use Rattle.sap_parse.specs.Table.{Row, next}
 use Rattle.sap_parse.specs.declared.choice.DeclarationHead.TheVariants as h
 use Rattle.sap_parse.specs.declared.choice.DeclarationHead.{DeclarationHead}
 use Rattle.sap_parse.specs.declared.cursor.Ahead.TheVariants as a
@@ -15,7 +15,7 @@ use Rattle.sap_lex.specs.declared.token.Sign.TheVariants as j
 use Rattle.sap_lex.specs.declared.token.Token.{Token}
 use Rattle.sap_tree.specs.declared.word.Word.TheVariants as w
 use Rattle.sap_parse.proofs.Fronts.{nothing_left}
-use Rattle.sap_parse.proofs.Laws.{at_word, chosen_row, nothing_ahead, read_if, read_none, same_if, sign_missing, sign_there, skips, step_more, stops, stops_at, word_missing, word_then, word_there}
+use Rattle.sap_parse.proofs.Laws.{at_word, chosen_row, nothing_ahead, read_none, same_if, sign_missing, sign_there, skips, step_more, stops, stops_at, word_missing, word_then, word_there}
 use Rattle.sap_parse.proofs.Single.{ahead_back, next_not_word}
 use Rattle.sap_walk.specs.Rows.{push, optional, ◌or◌}
 use Rattle.sap_walk.specs.Walk.{empty_here, cannot_stand, at_token}
@@ -52,27 +52,6 @@ module _ (enter : Enter) where
 
   pub enforced_steps : (p : Stage) → read_by enter s.enforced p ≡ steps_by enter (s.word r.Plain w.Enforced ∷ s.any_name r.Plain ∷ s.authority ∷ []) p
   enforced_steps = word_then enter s.enforced r.Plain w.Enforced _ (λ i. refl) refl
-
-  pub input_steps : (p : Stage) → read_by enter s.input p
-      ≡ steps_by enter (s.word r.Input w.Input ∷ s.any_name r.Plain ∷ s.sign r.Plain j.Colon ∷ s.number r.Plain ∷ s.sign r.Plain j.Semicolon ∷ []) p
-  input_steps = word_then enter s.input r.Input w.Input _ (λ i. refl) refl
-
-  pub register_steps : (p : Stage)
-      → read_by enter s.register p ≡ steps_by enter (s.word r.Register w.Reg ∷ s.any_name r.Plain ∷ s.sign r.Plain j.Colon
-      ∷ s.number r.Plain ∷ s.kind_of ∷ s.initial ∷ s.sign r.Plain j.Semicolon ∷ []) p
-  register_steps = word_then enter s.register r.Register w.Reg _ (λ i. refl) refl
-
-  pub memory_steps : (p : Stage)
-      → read_by enter s.memory p
-      ≡ steps_by enter (s.word r.Memory w.Mem ∷ s.any_name r.Plain ∷ s.sign r.Plain j.Colon ∷ s.number r.Plain
-      ∷ s.sign r.Plain j.OpenBracket ∷ s.number r.Plain ∷ s.sign r.Plain j.CloseBracket ∷ s.kind_of ∷ s.sign r.Plain j.Semicolon ∷ []) p
-  memory_steps = word_then enter s.memory r.Memory w.Mem _ (λ i. refl) refl
-
-  pub state_steps : (depth : ℕ) (p : Stage)
-      → read_by enter (s.state depth) p
-      ≡ steps_by enter (s.word (r.State depth) w.State ∷ s.any_name r.Plain ∷ s.kind_of ∷ s.sign r.Plain j.OpenBrace ∷ s.cmds 1
-      ∷ s.states (depth + 1) ∷ s.sign r.Plain j.CloseBrace ∷ []) p
-  state_steps depth = word_then enter (s.state depth) (r.State depth) w.State _ (λ i. refl) refl
 
   -- what may be left out
 
@@ -161,6 +140,3 @@ module _ (enter : Enter) where
 
   pub header_missing : (p : Stage) → ahead p.left ≢ a.Word w.Sapper → read_by enter s.header p ≡ Ok p
   header_missing = word_missing enter s.header r.Plain w.Sapper _ (λ i. refl) refl
-
-  pub design_steps : (p : Stage) → read_by enter s.design p ≡ steps_by enter (s.header ∷ s.declarations ∷ s.state 1 ∷ s.last_states ∷ []) p
-  design_steps p = read_if enter s.design design_symbols refl p (λ t ts left. refl)

@@ -22,7 +22,7 @@ use Rattle.sap_tree.specs.Precedence.{precedence, unary_precedence}
 use Rattle.sap_tree.specs.declared.syntax.BinaryOperator.{BinaryOperator}
 use Rattle.sap_tree.specs.declared.syntax.UnaryOperator.{UnaryOperator}
 use Rattle.sap_parse.proofs.Full.{IsFull, full}
-use Rattle.sap_parse.proofs.Laws.{at_sign, chosen_row, first_then_full, front_by, same_if, sign_missing, sign_then, sign_there, skips, step, step_if, step_more, stops, word_then}
+use Rattle.sap_parse.proofs.Laws.{at_sign, chosen_row, first_then_full, front_by, same_if, sign_missing, sign_there, skips, step, step_if, step_more, stops}
 use Rattle.sap_parse.proofs.Single.{ahead_back, ahead_front, next_not_sign, next_sign}
 use Rattle.sap_walk.specs.Rows.{push, optional, ◌or◌, firsts}
 use Rattle.sap_walk.specs.Walk.{begins, empty_here, cannot_stand, at_token}
@@ -47,25 +47,6 @@ prim_rows _ = refl
 module _ (enter : Enter) where
   pub unary_full : (i : Kind) → IsFull (s.unary_next i)
   unary_full = full s.unary refl
-
-  -- straight productions
-
-  pub paren_steps : (p : Stage) → read_by enter s.paren p ≡ steps_by enter (s.sign r.Opening j.OpenParen ∷ s.expr ∷ s.sign r.Closing j.CloseParen ∷ []) p
-  paren_steps = sign_then enter s.paren r.Opening j.OpenParen _ (λ i. refl) refl
-
-  pub braces_steps : (p : Stage)
-      → read_by enter s.braces p ≡ steps_by enter (s.sign r.Opening j.OpenBrace ∷ s.expr ∷ s.sign r.Inner j.Comma ∷ s.expr ∷ s.parts ∷ s.sign r.Closing j.CloseBrace ∷ []) p
-  braces_steps = sign_then enter s.braces r.Opening j.OpenBrace _ (λ i. refl) refl
-
-  pub zext_steps : (p : Stage)
-      → read_by enter s.zext p ≡ steps_by enter (s.word r.Inner w.Zext ∷ s.sign r.Opening j.OpenParen ∷ s.expr ∷ s.sign r.Inner j.Comma
-      ∷ s.number r.Inner ∷ s.sign r.Closing j.CloseParen ∷ []) p
-  zext_steps = word_then enter s.zext r.Inner w.Zext _ (λ i. refl) refl
-
-  pub slice_steps : (p : Stage)
-      → read_by enter s.slice p ≡ steps_by enter (s.sign r.Opening j.OpenBracket ∷ s.number r.Inner ∷ s.sign r.Inner j.Colon
-      ∷ s.number r.Inner ∷ s.sign r.Closing j.CloseBracket ∷ []) p
-  slice_steps = sign_then enter s.slice r.Opening j.OpenBracket _ (λ i. refl) refl
 
   -- what may be left out
 

@@ -32,13 +32,6 @@ texpr_rows (k.Word w.Tag) = refl
 texpr_rows _ = refl
 
 module _ (enter : Enter) where
-  pub tag_of_steps : (p : Stage) → read_by enter s.tag_of p ≡ steps_by enter (s.word r.Inner w.Tag ∷ s.sign r.Opening j.OpenParen ∷ s.expr ∷ s.sign r.Closing j.CloseParen ∷ []) p
-  tag_of_steps = word_then enter s.tag_of r.Inner w.Tag _ (λ i. refl) refl
-
-  pub level_at_steps : (p : Stage) → read_by enter s.level_at p
-      ≡ steps_by enter (s.word r.Inner w.Level ∷ s.sign r.Opening j.OpenParen ∷ s.expr ∷ s.sign r.Closing j.CloseParen ∷ []) p
-  level_at_steps = word_then enter s.level_at r.Inner w.Level _ (λ i. refl) refl
-
   pub join_steps : (p : Stage)
       → read_by enter s.join p ≡ steps_by enter (s.word r.Inner w.Join ∷ s.sign r.Opening j.OpenParen ∷ s.texpr ∷ s.sign r.Inner j.Comma
       ∷ s.texpr ∷ s.texprs ∷ s.sign r.Closing j.CloseParen ∷ []) p
