@@ -1,5 +1,5 @@
 -- What the symbols of commands read.
-use Rattle.std.proofs.Common.{◌≡◌, ◌≢◌, ◌+◌, ℕ, List, [], ◌∷◌, Bool, true, false, Ok, Err, refl, ◌∙◌}
+use Rattle.std.proofs.Common.{◌≡◌, ◌≢◌, ℕ, List, [], ◌∷◌, Bool, true, false, Ok, Err, refl, ◌∙◌}
 use Rattle.sap_parse.specs.Choices.{command_head, is_constant, primary_of}
 use Rattle.sap_parse.specs.Reading.{Enter, ahead, ahead_of, read_by, steps_by}
 use Rattle.sap_parse.specs.Stages.{Stage}
@@ -16,7 +16,7 @@ use Rattle.sap_lex.specs.declared.token.Kind.{Kind}
 use Rattle.sap_lex.specs.declared.token.Sign.TheVariants as j
 use Rattle.sap_lex.specs.declared.token.Token.{Token}
 use Rattle.sap_tree.specs.declared.word.Word.TheVariants as w
-use Rattle.sap_parse.proofs.Laws.{at_sign, at_word, chosen_row, same_if, sign_missing, sign_then, sign_there, skips, step_if, step_more, stops, word_missing, word_then, word_there}
+use Rattle.sap_parse.proofs.Laws.{at_sign, at_word, chosen_row, same_if, sign_missing, sign_then, sign_there, skips, step_if, step_more, stops, word_missing, word_then}
 use Rattle.sap_parse.proofs.Single.{ahead_back}
 use Rattle.sap_walk.specs.Rows.{push}
 use Rattle.sap_walk.specs.Walk.{empty_here, cannot_stand, at_token}
@@ -83,15 +83,8 @@ module _ (enter : Enter) where
 
   -- what may be left out
 
-  pub cell_part_there : (p : Stage) → ahead p.left ≡ a.Sign j.OpenBracket
-      → read_by enter s.cell_part p ≡ steps_by enter (s.sign r.Plain j.OpenBracket ∷ s.expr ∷ s.sign r.Plain j.CloseBracket ∷ []) p
-  cell_part_there = sign_there enter s.cell_part r.Plain j.OpenBracket _ (λ i. refl)
-
   pub cell_part_missing : (p : Stage) → ahead p.left ≢ a.Sign j.OpenBracket → read_by enter s.cell_part p ≡ Ok p
   cell_part_missing = sign_missing enter s.cell_part r.Plain j.OpenBracket _ (λ i. refl) refl
-
-  pub else_there : (depth : ℕ) (p : Stage) → ahead p.left ≡ a.Word w.Else → read_by enter (s.else_part depth) p ≡ steps_by enter (s.word r.Plain w.Else ∷ s.block depth ∷ []) p
-  else_there depth = word_there enter (s.else_part depth) r.Plain w.Else _ (λ i. refl)
 
   pub else_missing : (depth : ℕ) (p : Stage) → ahead p.left ≢ a.Word w.Else → read_by enter (s.else_part depth) p ≡ Ok p
   else_missing depth = word_missing enter (s.else_part depth) r.Plain w.Else _ (λ i. refl) refl
@@ -110,14 +103,6 @@ module _ (enter : Enter) where
   target_assign p ne = step_if enter s.target (s.sign r.Plain j.Becomes) (s.expr ∷ []) refl refl p (λ t ts left. assign_row t.kind (λ h. ne (ahead_back t ts h left)))
 
   -- behind a command that can have a handler
-
-  pub ending_handled : (depth : ℕ) (p : Stage) → ahead p.left ≡ a.Word w.Otherwise
-      → read_by enter (s.ending depth) p ≡ steps_by enter (s.word r.Plain w.Otherwise ∷ s.block (depth + 1) ∷ []) p
-  ending_handled depth = at_word enter (s.ending depth) (s.word r.Plain w.Otherwise) _ w.Otherwise refl refl
-
-  pub ending_decided : (depth : ℕ) (p : Stage) → ahead p.left ≡ a.Word w.Then
-      → read_by enter (s.ending depth) p ≡ steps_by enter (s.word r.Plain w.Then ∷ s.block (depth + 1) ∷ s.word r.Plain w.Otherwise ∷ s.block (depth + 1) ∷ []) p
-  ending_decided depth = at_word enter (s.ending depth) (s.word r.Plain w.Then) _ w.Then refl refl
 
   unhandled_row : (depth : ℕ) (i : Kind) → ahead_of i ≢ a.Word w.Otherwise → ahead_of i ≢ a.Word w.Then → s.ending_next depth i ≡ next (s.sign r.Plain j.Semicolon) i
   unhandled_row depth (k.Sign j.Semicolon) ne nt = refl

@@ -1,5 +1,5 @@
 -- Symbols of commands by the rows of symbols that functions of the reader take at once.
-use Rattle.std.proofs.Common.{◌≡◌, ◌≢◌, ◌+◌, ℕ, [], ◌∷◌, refl, sym, ap, ◌∙◌}
+use Rattle.std.proofs.Common.{◌≡◌, ◌≢◌, ◌+◌, ◌++◌, ℕ, [], ◌∷◌, refl, sym, ap, ◌∙◌}
 use Rattle.sap_parse.specs.Choices.{command_head}
 use Rattle.sap_parse.specs.CommandRows.{arms_row, behind_row, constants_row, new_tag_row, new_value_row, tag_place_row}
 use Rattle.sap_parse.specs.Reading.{ahead, reads, steps_by, strictly}
@@ -12,13 +12,15 @@ use Rattle.sap_parse.specs.declared.cursor.Ahead.{Ahead}
 use Rattle.sap_parse.specs.declared.role.Role.TheVariants as r
 use Rattle.sap_lex.specs.declared.token.Sign.TheVariants as j
 use Rattle.sap_tree.specs.declared.word.Word.TheVariants as w
-use Rattle.sap_parse.proofs.CommandLaws.{cell_part_missing, cell_part_there, else_there, ending_decided, ending_handled, simple_name, target_assign, target_write}
-use Rattle.sap_parse.proofs.RowLaws.{rest, row_first, row_row, row_steps, row_then}
+use Rattle.sap_parse.proofs.CommandLaws.{cell_part_missing, simple_name, target_assign, target_write}
+use Rattle.sap_parse.proofs.Laws.{at_word, sign_there, word_there}
+use Rattle.sap_parse.proofs.RowLaws.{rest, row_first, row_row, row_then}
 use Rattle.sap_walk.specs.Walk.{◌>>=◌}
 use Rattle.sap_walk.proofs.Walking.{bind_pure, bind_same}
 
 pub cell_row : (p : Stage) → ahead p.left ≡ a.Sign j.OpenBracket → reads s.cell_part p ≡ reads_row (between_row r.Plain j.OpenBracket r.Plain j.CloseBracket) p
-cell_row p e = cell_part_there strictly p e ∙ sym (row_steps _ p)
+unfolding reads_row
+cell_row = sign_there strictly s.cell_part r.Plain j.OpenBracket (rest (between_row r.Plain j.OpenBracket r.Plain j.CloseBracket)) (λ i. refl)
 
 -- an index where one is written, and the new value
 target_parts : (p : Stage) → reads s.target p ≡ (reads s.cell_part p >>= reads_row new_value_row)
@@ -59,11 +61,15 @@ case_rows depth = row_first (s.case_command depth) (s.word (r.Command depth) w.C
     (arms_row (depth + 1)) (λ i. refl) refl refl
 
 pub else_row : (depth : ℕ) (p : Stage) → ahead p.left ≡ a.Word w.Else → reads (s.else_part (depth + 1)) p ≡ reads_row (behind_row w.Else depth) p
-else_row depth p e = else_there strictly (depth + 1) p e ∙ sym (row_steps _ p)
+unfolding reads_row
+else_row depth = word_there strictly (s.else_part (depth + 1)) r.Plain w.Else (rest (behind_row w.Else depth)) (λ i. refl)
 
 pub handled_row : (depth : ℕ) (p : Stage) → ahead p.left ≡ a.Word w.Otherwise → reads (s.ending depth) p ≡ reads_row (behind_row w.Otherwise depth) p
-handled_row depth p e = ending_handled strictly depth p e ∙ sym (row_steps _ p)
+unfolding reads_row
+handled_row depth = at_word strictly (s.ending depth) (s.word r.Plain w.Otherwise) (rest (behind_row w.Otherwise depth)) w.Otherwise refl refl
 
 pub decided_rows : (depth : ℕ) (p : Stage) → ahead p.left ≡ a.Word w.Then
     → reads (s.ending depth) p ≡ (reads_row (behind_row w.Then depth) p >>= reads_row (behind_row w.Otherwise depth))
-decided_rows depth p e = ending_decided strictly depth p e ∙ row_row (behind_row w.Then depth) (behind_row w.Otherwise depth) p
+decided_rows depth p e =
+    at_word strictly (s.ending depth) (s.word r.Plain w.Then) (rest (behind_row w.Then depth) ++ behind_row w.Otherwise depth) w.Then refl refl p e
+    ∙ row_row (behind_row w.Then depth) (behind_row w.Otherwise depth) p

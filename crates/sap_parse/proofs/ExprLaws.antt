@@ -50,10 +50,6 @@ module _ (enter : Enter) where
 
   -- what may be left out
 
-  pub choice_there : (p : Stage) → ahead p.left ≡ a.Sign j.Question
-      → read_by enter s.choice p ≡ steps_by enter (s.sign r.Inner j.Question ∷ s.expr ∷ s.sign r.Inner j.Colon ∷ s.expr ∷ []) p
-  choice_there = sign_there enter s.choice r.Inner j.Question _ (λ i. refl)
-
   pub choice_missing : (p : Stage) → ahead p.left ≢ a.Sign j.Question → read_by enter s.choice p ≡ Ok p
   choice_missing = sign_missing enter s.choice r.Inner j.Question _ (λ i. refl) refl
 

@@ -10,9 +10,8 @@ use Rattle.sap_parse.specs.declared.role.Role.TheVariants as r
 use Rattle.sap_lex.specs.declared.token.Kind.{Kind}
 use Rattle.sap_lex.specs.declared.token.Sign.TheVariants as j
 use Rattle.sap_tree.specs.declared.word.Word.TheVariants as w
-use Rattle.sap_parse.proofs.ExprLaws.{choice_there}
 use Rattle.sap_parse.proofs.IndexLaws.{bracket_slice}
-use Rattle.sap_parse.proofs.Laws.{sign_then, step, steps_append, word_then}
+use Rattle.sap_parse.proofs.Laws.{sign_then, sign_there, step, steps_append, word_then}
 use Rattle.sap_walk.specs.Rows.{push}
 use Rattle.sap_walk.specs.Walk.{◌>>=◌}
 use Rattle.sap_walk.proofs.Walking.{bind_same}
@@ -55,7 +54,8 @@ paren_row = sign_then strictly s.paren r.Opening j.OpenParen (s.expr ∷ s.sign 
 
 pub choice_row : (p : Stage) → ahead p.left ≡ a.Sign j.Question
     → reads s.choice p ≡ (reads_row (between_row r.Inner j.Question r.Inner j.Colon) p >>= steps_by strictly (s.expr ∷ []))
-choice_row p e = choice_there strictly p e ∙ row_then (between_row r.Inner j.Question r.Inner j.Colon) (s.expr ∷ []) p
+choice_row p e = sign_there strictly s.choice r.Inner j.Question (rest (between_row r.Inner j.Question r.Inner j.Colon) ++ s.expr ∷ []) (λ i. refl) p e
+    ∙ row_then (between_row r.Inner j.Question r.Inner j.Colon) (s.expr ∷ []) p
 
 pub zext_row : (p : Stage)
     → reads s.zext p ≡ (reads (s.word r.Inner w.Zext) p >>= λ q. (reads_row (between_row r.Opening j.OpenParen r.Inner j.Comma) q >>= reads_row (last_number_row j.CloseParen)))
