@@ -1,418 +1,167 @@
--- Tag expressions and commands of a text within the limits are within theirs.
-use Rattle.sap_lemmas.proofs.Common.{◌≡◌, ◌≤◌, ◌+◌, ℕ, max, Bool, true, false, refl, ◌∙◌, arith, ◌&&◌, ◌||◌, length}
+-- Commands of a text within the limits are within theirs.
+use Rattle.sap_lemmas.proofs.Common.{◌≡◌, ◌≤◌, ◌+◌, ℕ, max, Bool, true, false, refl, arith, nat_le, ◌&&◌, ◌||◌, length}
 use Rattle.sap_parse.specs.Grammar as g
 use Rattle.sap_parse.specs.Limits.{Counts}
-use Rattle.sap_parse.specs.Stages.{Stage}
+use Rattle.sap_parse.specs.Stages.{Stage, IsToken}
 use Rattle.sap_parse.specs.declared.role.Role.TheVariants as r
-use Rattle.sap_parse.proofs.Between.{all_true, le_true, Between, ◌then◌, gives, still, sized, one_less, stands, RoleFact}
-use Rattle.sap_parse.proofs.FitsExpr.{Fits, expr_between, outermost}
-use Rattle.sap_tree.specs.Prelude.{tokens, brackets, tag_tokens, tag_part_tokens, tag_brackets, tag_part_brackets, is_expression, is_tag, are_tags, is_outermost_tag, is_simple, is_command, is_block, is_else, are_arms, are_commands, is_constant, are_constants, has_constant, has_arm, arm_count, command_count, block_count, else_count, arms_count, list_count, command_depth, block_depth, else_depth, arms_depth, list_depth, most_arms, is_name, is_second}
-use Rattle.sap_tree.specs.declared.name.Mention.{Mention}
+use Rattle.sap_lex.specs.declared.token.Kind.{Kind}
+use Rattle.sap_parse.proofs.Between.{all_true, le_true, Between, ◌then◌, gives, still, sized, one_less, stands, KindFact}
+use Rattle.sap_parse.proofs.FitsExpr.{Spans, all_of, kind_is, kind_true, expr_between, texpr_between, outermost}
+use Rattle.sap_tree.specs.Prelude.{is_outermost, is_simple, is_command, is_block, is_else, are_arms, are_commands, is_constant, are_constants, has_constant, arm_count, command_count, block_count, else_count, arms_count, list_count, command_depth, block_depth, else_depth, arms_depth, list_depth, most_arms, is_second}
 use Rattle.sap_tree.specs.declared.version.Version.{Version}
 use Rattle.sap_tree.specs.Syntax as t
 use Rattle.sap_tree.specs.declared.version.Version.TheVariants as v
-use Rattle.sap_text.specs.declared.place.Place.{Place}
 
--- tag expressions
+-- between these counts are commands or states at this depth: what is tested of them, how many states and commands they begin, and how many levels are theirs
+pub record Adds (most depth : ℕ) (is : Bool) (s n l : ℕ) (c d : Counts) : Type 0 where
+  pub test : is ≡ true
+  pub states : d.states ≡ c.states + s
+  pub commands : d.commands ≡ c.commands + n
+  pub state_room : c.states ≤ 256 → d.states ≤ 256
+  pub command_room : c.commands ≤ 4096 → d.commands ≤ 4096
+  pub level : depth ≤ most → depth + l ≤ most
 
-pub record FitsTag (version : Version) (x : t.TagExpression) (c d : Counts) : Type 0 where
-  pub is : is_tag version x ≡ true
-  pub size : c.tokens + tag_tokens x ≤ d.tokens
-  pub room : d.tokens ≤ 256
-  pub even : d.brackets ≡ c.brackets
-  pub depth : c.brackets ≤ 64 → c.brackets + tag_brackets x ≤ 64
-  pub states : d.states ≡ c.states
-  pub commands : d.commands ≡ c.commands
+abbrev pub Holds : Version → (most depth : ℕ) → Stage → Stage → Bool → (s n l : ℕ) → Type 0
+Holds version most depth p q is s n l = Between version p q (Adds most depth is s n l p.past.counts q.past.counts)
 
-pub record FitsTags (version : Version) (xs : t.TagExpressions) (c d : Counts) : Type 0 where
-  pub are : are_tags version xs ≡ true
-  pub size : c.tokens + tag_part_tokens xs ≤ d.tokens
-  pub room : c.tokens ≤ 256 → d.tokens ≤ 256
-  pub even : d.brackets ≡ c.brackets
-  pub depth : c.brackets ≤ 64 → c.brackets + tag_part_brackets xs ≤ 64
-  pub states : d.states ≡ c.states
-  pub commands : d.commands ≡ c.commands
+abbrev pub Commands : Version → ℕ → Stage → Stage → Bool → (n l : ℕ) → Type 0
+Commands version depth p q is n l = Holds version 65 depth p q is 0 n l
 
-level_fits : {version : Version} {m : Mention} {c d : Counts} → is_name version m.name ≡ true → RoleFact r.Inner c d → FitsTag version (t.level_of m) c d
-unfolding is_tag tag_tokens tag_brackets
-level_fits is a = let a0 = a.0 in let a1 = a.1 in
-    record { is = is; size = omega arith; room = a0.room; even = a1; depth = λ h. omega arith; states = a0.states; commands = a0.commands }
+tested : {most depth s n l : ℕ} {a b : Bool} {c d : Counts} → Adds most depth a s n l c d → b ≡ true → Adds most depth b s n l c d
+tested f h = record { test = h; states = f.states; commands = f.commands; state_room = f.state_room; command_room = f.command_room; level = f.level }
 
--- `tag` or `level`
-word_fits : {version : Version} (x : t.Expression) (w : t.TagExpression) {c1 c2 c3 c4 c5 : Counts}
-    → is_tag version w ≡ is_expression version x → tag_tokens w ≡ tokens x + 3 → tag_brackets w ≡ 1 + brackets x
-    → RoleFact r.Inner c1 c2 → RoleFact r.Opening c2 c3 → Fits version 0 x c3 c4 → RoleFact r.Closing c4 c5 → FitsTag version w c1 c5
-word_fits x w same size nest a b c d =
-    let a0 = a.0 in let a1 = a.1 in let b0 = b.0 in let b1 = b.1 in let b2 = b.2 in let d0 = d.0 in let d1 = d.1 in let e1 = c.even in let s1 = c.size in
+pub nothing : {version : Version} {most depth : ℕ} {p : Stage} → Holds version most depth p p true 0 0 0
+nothing = still (record { test = refl; states = omega arith; commands = omega arith; state_room = λ h. h; command_room = λ h. h; level = λ h. omega arith })
+
+pub joined : {version : Version} {most depth : ℕ} {o p q : Stage} {a b is : Bool} {s n l t m k i j h : ℕ} → Holds version most depth o p a s n l
+    → Holds version most depth p q b t m k → (a ≡ true → b ≡ true → is ≡ true) → i ≡ s + t → j ≡ n + m → h ≤ max l k → Holds version most depth o q is i j h
+joined x y test states commands levels = gives (x then y) (λ f.
+    let s = f.0.states in let n = f.0.commands in let t = f.1.states in let m = f.1.commands in
     record {
-      is = same ∙ c.is;
-      size = omega arith;
-      room = d0.room;
-      even = omega arith;
-      depth = λ h. let deep = c.depth (omega arith) in omega arith;
-      states = omega (arith, c.states);
-      commands = omega (arith, c.commands);
-    }
-
-tag_of_fits : {version : Version} {x : t.Expression} {p : Place} {c1 c2 c3 c4 c5 : Counts} → RoleFact r.Inner c1 c2
-    → RoleFact r.Opening c2 c3 → Fits version 0 x c3 c4 → RoleFact r.Closing c4 c5 → FitsTag version (t.tag_at p x) c1 c5
-unfolding is_tag tag_tokens tag_brackets
-tag_of_fits {x} {p} a b c d = word_fits x (t.tag_at p x) refl refl refl a b c d
-
-level_at_fits : {version : Version} {x : t.Expression} {p : Place} {c1 c2 c3 c4 c5 : Counts} → RoleFact r.Inner c1 c2
-    → RoleFact r.Opening c2 c3 → Fits version 0 x c3 c4 → RoleFact r.Closing c4 c5 → FitsTag version (t.level_at p x) c1 c5
-unfolding is_tag tag_tokens tag_brackets
-level_at_fits {x} {p} a b c d = word_fits x (t.level_at p x) refl refl refl a b c d
-
-join_tokens : (p : Place) (x y : t.TagExpression) (xs : t.TagExpressions)
-    → tag_tokens (t.join_of p (t.and_tag x (t.and_tag y xs))) ≡ 2 + (tag_tokens x + 1 + (tag_tokens y + 1 + tag_part_tokens xs))
-unfolding tag_tokens
-join_tokens p x y xs = refl
-
-join_brackets : (p : Place) (x y : t.TagExpression) (xs : t.TagExpressions)
-    → tag_brackets (t.join_of p (t.and_tag x (t.and_tag y xs))) ≡ 1 + max (tag_brackets x) (max (tag_brackets y) (tag_part_brackets xs))
-unfolding tag_brackets
-join_brackets p x y xs = refl
-
-join_fits : {version : Version} {x y : t.TagExpression} {xs : t.TagExpressions} {p : Place} {c1 c2 c3 c4 c5 c6 c7 c8 : Counts}
-    → RoleFact r.Inner c1 c2 → RoleFact r.Opening c2 c3 → FitsTag version x c3 c4 → RoleFact r.Inner c4 c5
-    → FitsTag version y c5 c6 → FitsTags version xs c6 c7 → RoleFact r.Closing c7 c8 → FitsTag version (t.join_of p (t.and_tag x (t.and_tag y xs))) c1 c8
-unfolding is_tag
-join_fits {x} {y} {xs} {p} o a b c d e f =
-    let size = join_tokens p x y xs in
-    let nest = join_brackets p x y xs in
-    let o0 = o.0 in let o1 = o.1 in
-    let a0 = a.0 in let a1 = a.1 in let a2 = a.2 in let c0 = c.0 in let c1 = c.1 in let f0 = f.0 in let f1 = f.1 in
-    let e1 = b.even in let e2 = d.even in let e3 = e.even in let s1 = b.size in let s2 = d.size in let s3 = e.size in
-    record {
-      is = all_true b.is (all_true d.is e.are);
-      size = omega arith;
-      room = f0.room;
-      even = omega arith;
-      depth = λ h. let d1 = b.depth (omega arith) in let d2 = d.depth (omega arith) in let d3 = e.depth (omega arith) in omega arith;
-      states = omega (arith, b.states, d.states, e.states);
-      commands = omega (arith, b.commands, d.commands, e.commands);
-    }
-
-no_tags_fit : {version : Version} (c : Counts) → FitsTags version t.no_tag c c
-unfolding is_tag tag_tokens tag_brackets
-no_tags_fit c = record { are = refl; size = omega arith; room = λ h. h; even = refl; depth = λ h. omega arith; states = refl; commands = refl }
-
-tag_part_tokens_are : (x : t.TagExpression) (xs : t.TagExpressions) → tag_part_tokens (t.and_tag x xs) ≡ tag_tokens x + 1 + tag_part_tokens xs
-unfolding tag_tokens
-tag_part_tokens_are x xs = refl
-
-tag_part_brackets_are : (x : t.TagExpression) (xs : t.TagExpressions) → tag_part_brackets (t.and_tag x xs) ≡ max (tag_brackets x) (tag_part_brackets xs)
-unfolding tag_brackets
-tag_part_brackets_are x xs = refl
-
-tag_fits : {version : Version} {x : t.TagExpression} {xs : t.TagExpressions} {c1 c2 c3 c4 : Counts} → RoleFact r.Inner c1 c2
-    → FitsTag version x c2 c3 → FitsTags version xs c3 c4 → FitsTags version (t.and_tag x xs) c1 c4
-unfolding is_tag
-tag_fits {x} {xs} a b c =
-    let size = tag_part_tokens_are x xs in
-    let nest = tag_part_brackets_are x xs in
-    let a0 = a.0 in let a1 = a.1 in let e1 = b.even in let e2 = c.even in let s1 = b.size in let s2 = c.size in
-    record {
-      are = all_true b.is c.are;
-      size = omega arith;
-      room = λ h. c.room b.room;
-      even = omega arith;
-      depth = λ h. let d1 = b.depth (omega arith) in let d2 = c.depth (omega arith) in omega arith;
-      states = omega (arith, b.states, c.states);
-      commands = omega (arith, b.commands, c.commands);
-    }
-
-mutual
-  texpr_between : {version : Version} {p q : Stage} {x : t.TagExpression} → g.Texpr p x q → Between version p q (FitsTag version x p.past.counts q.past.counts)
-  texpr_between (g.level a) = gives (stands a) (λ f. level_fits f.0 f.1)
-  texpr_between (g.tag_of a b x c) = gives (stands a then (stands b then (expr_between x then stands c))) (λ f. tag_of_fits f.0.1 f.1.0.1 f.1.1.0 f.1.1.1.1)
-  texpr_between (g.level_at a b x c) = gives (stands a then (stands b then (expr_between x then stands c))) (λ f. level_at_fits f.0.1 f.1.0.1 f.1.1.0 f.1.1.1.1)
-  texpr_between (g.join a b x c y xs d) =
-      gives (stands a then (stands b then (texpr_between x then (stands c then (texpr_between y then (texprs_between xs then stands d))))))
-      (λ f. join_fits f.0.1 f.1.0.1 f.1.1.0 f.1.1.1.0.1 f.1.1.1.1.0 f.1.1.1.1.1.0 f.1.1.1.1.1.1.1)
-
-  texprs_between : {version : Version} {p q : Stage} {xs : t.TagExpressions} → g.Texprs p xs q → Between version p q (FitsTags version xs p.past.counts q.past.counts)
-  texprs_between {p} g.no_tag = still (no_tags_fit p.past.counts)
-  texprs_between (g.tag a x xs) = gives (stands a then (texpr_between x then texprs_between xs)) (λ f. tag_fits f.0.1 f.1.0 f.1.1)
-
-outermost_tag : {version : Version} {x : t.TagExpression} {c d : Counts} → c.tokens ≡ 0 → c.brackets ≡ 0 → FitsTag version x c d → is_outermost_tag version x ≡ true
-outermost_tag {x} none closed f =
-    let size : tag_tokens x ≤ 256 = let s = f.size in let r = f.room in omega arith in
-    let nest : tag_brackets x ≤ 64 = let d = f.depth (omega arith) in omega arith in
-    all_true f.is (all_true (le_true size) (le_true nest))
-
--- commands
-
-pub record FitsSimple (version : Version) (depth : ℕ) (x : t.SimpleCommand) (c d : Counts) : Type 0 where
-  pub is : is_simple version x ≡ true
-  pub count : d.commands ≡ c.commands + 1
-  pub room : d.commands ≤ 4096
-  pub level : depth ≤ 64
-  pub states : d.states ≡ c.states
-
-pub record FitsCommand (version : Version) (depth : ℕ) (x : t.Command) (c d : Counts) : Type 0 where
-  pub is : is_command version x ≡ true
-  pub count : d.commands ≡ c.commands + command_count x
-  pub room : d.commands ≤ 4096
-  pub level : depth + command_depth x ≤ 65
-  pub states : d.states ≡ c.states
-
--- a block, an `else` or a list of commands, with its test, its number of commands and the depth of the deepest
-pub record FitsCommands (depth : ℕ) (is : Bool) (number deepest : ℕ) (c d : Counts) : Type 0 where
-  pub are : is ≡ true
-  pub count : d.commands ≡ c.commands + number
-  pub room : c.commands ≤ 4096 → d.commands ≤ 4096
-  pub level : depth ≤ 65 → depth + deepest ≤ 65
-  pub states : d.states ≡ c.states
-
-assign_fits : {version : Version} {n : ℕ} {m : Mention} {x : t.Expression} {c1 c2 c3 c4 : Counts} → is_name version m.name ≡ true
-    → RoleFact (r.Command n) c1 c2 → RoleFact r.Plain c2 c3 → Fits version 0 x c3 c4
-    → FitsSimple version n (t.assign m x) c1 c4
-unfolding is_simple
-assign_fits is a b x =
-    let a0 = a.0 in let a1 = a.1 in let a2 = a.2 in let s = x.states in let n = x.commands in
-    record { is = all_true is (outermost b.tokens b.brackets x); count = omega arith; room = omega arith; level = a2; states = omega arith }
-
-write_fits : {version : Version} {n : ℕ} {m : Mention} {i x : t.Expression} {c1 c2 c3 c4 c5 c6 c7 : Counts} → is_name version m.name ≡ true
-    → RoleFact (r.Command n) c1 c2 → RoleFact r.Plain c2 c3 → Fits version 0 i c3 c4
-    → RoleFact r.Plain c4 c5 → RoleFact r.Plain c5 c6 → Fits version 0 x c6 c7 → FitsSimple version n (t.write m i x) c1 c7
-unfolding is_simple
-write_fits is a b i c d x =
-    let a0 = a.0 in let a1 = a.1 in let a2 = a.2 in let s = x.states in let n = x.commands in let s' = i.states in let n' = i.commands in
-    record {
-      is = all_true (all_true is (outermost b.tokens b.brackets i)) (outermost d.tokens d.brackets x);
-      count = omega arith;
-      room =
-          omega arith;
-      level = a2;
+      test = test f.0.test f.1.test;
       states = omega arith;
-    }
+      commands = omega arith;
+      state_room = λ h. f.1.state_room (f.0.state_room h);
+      command_room = λ h. f.1.command_room (f.0.command_room h);
+      level = λ h. let u = f.0.level h in let v = f.1.level h in omega arith;
+    })
 
-set_tag_fits : {version : Version} {n : ℕ} {p : Place} {m : Mention} {x : t.TagExpression} {c1 c2 c3 c4 c5 c6 c7 : Counts}
-    → RoleFact (r.Command n) c1 c2 → RoleFact r.Plain c2 c3 → is_name version m.name ≡ true → RoleFact r.Plain c3 c4
-    → RoleFact r.Plain c4 c5 → FitsTag version x c5 c6 → RoleFact r.Plain c6 c7 → FitsSimple version n (t.set_tag p m x) c1 c7
-unfolding is_simple
-set_tag_fits a b is c d x e =
-    let a0 = a.0 in let a1 = a.1 in let a2 = a.2 in let s = x.states in let n = x.commands in
-    record { is = all_true is (outermost_tag d.tokens d.brackets x); count = omega arith; room = omega arith; level = a2; states = omega arith }
+infixl 10 ◌and◌
+pub ◌and◌ : {version : Version} {most depth : ℕ} {o p q : Stage} {a b : Bool} {s n l t m k : ℕ} → Holds version most depth o p a s n l
+    → Holds version most depth p q b t m k → Holds version most depth o q (a && b) (s + t) (n + m) (max l k)
+x and y = joined x y all_true refl refl (omega arith)
 
-set_cell_tag_fits : {version : Version} {n : ℕ} {p : Place} {m : Mention} {i : t.Expression} {x : t.TagExpression}
-    {c1 c2 c3 c4 c5 c6 c7 c8 c9 c10 : Counts} → RoleFact (r.Command n) c1 c2 → RoleFact r.Plain c2 c3
-    → is_name version m.name ≡ true → RoleFact r.Plain c3 c4 → RoleFact r.Plain c4 c5 → Fits version 0 i c5 c6 → RoleFact r.Plain c6 c7
-    → RoleFact r.Plain c7 c8 → FitsTag version x c8 c9 → RoleFact r.Plain c9 c10
-    → FitsSimple version n (t.set_cell_tag p m i x) c1 c10
-unfolding is_simple
-set_cell_tag_fits a b is c d i e f x o =
-    let a0 = a.0 in let a1 = a.1 in let a2 = a.2 in let s = x.states in let n = x.commands in let s' = i.states in let n' = i.commands in
+-- what stands in them is one level deeper
+infixl 10 ◌owns◌
+pub ◌owns◌ : {version : Version} {most depth : ℕ} {o p q : Stage} {a b : Bool} {s n t m k : ℕ} → Holds version most depth o p a s n 1
+    → Holds version most (depth + 1) p q b t m k → Holds version most depth o q (a && b) (s + t) (n + m) (1 + k)
+x owns y = gives (x then y) (λ f.
+    let s = f.0.states in let n = f.0.commands in let t = f.1.states in let m = f.1.commands in
     record {
-      is = all_true (all_true is (outermost d.tokens d.brackets i)) (outermost_tag f.tokens f.brackets x);
-      count =
-          omega arith;
-      room = omega arith;
-      level = a2;
+      test = all_true f.0.test f.1.test;
       states = omega arith;
-    }
+      commands = omega arith;
+      state_room = λ h. f.1.state_room (f.0.state_room h);
+      command_room = λ h. f.1.command_room (f.0.command_room h);
+      level = λ h. let u = f.0.level h in let v = f.1.level (omega arith) in omega arith;
+    })
 
-goto_fits : {version : Version} {n : ℕ} {p : Place} {m : Mention} {c1 c2 c3 : Counts} → RoleFact (r.Command n) c1 c2
-    → is_name version m.name ≡ true → RoleFact r.Plain c2 c3 → FitsSimple version n (t.go_to p m) c1 c3
+-- a token that begins nothing, with what is tested of it
+plainly : {version : Version} {most depth : ℕ} {p q : Stage} {kind : Kind} {b : Bool} → IsToken p r.Plain kind q → (KindFact version kind → b ≡ true)
+    → Holds version most depth p q b 0 0 0
+plainly a h = gives (stands a) (λ f.
+    let s = f.1.states in let n = f.1.commands in
+    record { test = h f.0; states = s; commands = n; state_room = λ h. omega arith; command_room = λ h. omega arith; level = λ h. omega arith })
+
+pub plain : {version : Version} {most depth : ℕ} {p q : Stage} {kind : Kind} → IsToken p r.Plain kind q → Holds version most depth p q (kind_is version kind) 0 0 0
+plain {version} {kind = kind} a = plainly a (kind_true version kind)
+
+-- and one of which nothing is
+infixr 12 ◌before◌
+pub ◌before◌ : {version : Version} {most depth : ℕ} {o p q : Stage} {kind : Kind} {a : Bool} {s n l : ℕ} → IsToken o r.Plain kind p
+    → Holds version most depth p q a s n l → Holds version most depth o q a s n l
+x before y = joined (plain x) y (λ e f. f) (omega arith) (omega arith) (omega arith)
+
+infixl 10 ◌upto◌
+pub ◌upto◌ : {version : Version} {most depth : ℕ} {o p q : Stage} {kind : Kind} {a : Bool} {s n l : ℕ} → Holds version most depth o p a s n l
+    → IsToken p r.Plain kind q → Holds version most depth o q a s n l
+x upto y = joined x (plain y) (λ e f. e) (omega arith) (omega arith) (omega arith)
+
+-- an expression or tag expression that stands in no other, and the token before it
+holding : {version : Version} {most depth : ℕ} {o p q : Stage} {kind : Kind} {a : Bool} {n l : ℕ} → IsToken o r.Plain kind p → Spans version p q a n l
+    → Holds version most depth o q (a && (nat_le n 256 && nat_le l 64)) 0 0 0
+holding x y = gives (stands x then y) (λ f.
+    let b = f.0.1 in let s = b.states in let n = b.commands in let t = f.1.states in let m = f.1.commands in
+    record {
+      test = outermost b.tokens b.brackets f.1;
+      states = omega arith;
+      commands = omega arith;
+      state_room = λ h. omega arith;
+      command_room = λ h. omega arith;
+      level = λ h. omega arith;
+    })
+
+-- the first token of a command
+begun : {version : Version} {n : ℕ} {p q : Stage} {kind : Kind} {b : Bool} → IsToken p (r.Command n) kind q → (KindFact version kind → b ≡ true) → Commands version n p q b 1 1
+begun a h = gives (stands a) (λ f.
+    let b = f.1.0 in let s = b.states in let m = f.1.1 in let l = f.1.2 in
+    record { test = h f.0; states = s; commands = b.commands; state_room = λ h. omega arith; command_room = λ h. m; level = λ h. omega arith })
+
+command : {version : Version} {n : ℕ} {p q : Stage} {kind : Kind} → IsToken p (r.Command n) kind q → Commands version n p q (kind_is version kind) 1 1
+command {version} {kind = kind} a = begun a (kind_true version kind)
+
+simple_between : {version : Version} {n : ℕ} {p q : Stage} {x : t.SimpleCommand} → g.Simple n p x q → Commands version n p q (is_simple version x) 1 1
 unfolding is_simple
-goto_fits a is b = let a0 = a.0 in let a1 = a.1 in let a2 = a.2 in record { is = is; count = omega arith; room = omega arith; level = a2; states = omega arith }
-
-fall_fits : {version : Version} {n : ℕ} {p : Place} {c1 c2 : Counts} → RoleFact (r.Command n) c1 c2 → FitsSimple version n (t.fall_to_child p) c1 c2
-unfolding is_simple
-fall_fits a = let a0 = a.0 in let a1 = a.1 in let a2 = a.2 in record { is = refl; count = omega arith; room = omega arith; level = a2; states = omega arith }
-
-simple_between : {version : Version} {n : ℕ} {p q : Stage} {x : t.SimpleCommand} → g.Simple n p x q → Between version p q (FitsSimple version n x p.past.counts q.past.counts)
-simple_between (g.assign a b x) = gives (stands a then (stands b then expr_between x)) (λ f. assign_fits f.0.0 f.0.1 f.1.0.1 f.1.1)
-simple_between (g.write a b i c d x) =
-    gives (stands a then (stands b then (expr_between i then (stands c then (stands d then expr_between x)))))
-    (λ f. write_fits f.0.0 f.0.1 f.1.0.1 f.1.1.0 f.1.1.1.0.1 f.1.1.1.1.0.1 f.1.1.1.1.1)
-simple_between (g.set_tag a b c d x e) =
-    gives (stands a then (stands b then (stands c then (stands d then (texpr_between x then stands e)))))
-    (λ f. set_tag_fits f.0.1 f.1.0.1 f.1.1.0.0 f.1.1.0.1 f.1.1.1.0.1 f.1.1.1.1.0 f.1.1.1.1.1.1)
+simple_between (g.assign a b x) = command a and holding b (expr_between x)
+simple_between (g.write a b i c d x) = command a and holding b (expr_between i) and c before holding d (expr_between x)
+simple_between (g.set_tag a b c d x e) = command a and b before (plain c and holding d (texpr_between x)) upto e
 simple_between (g.set_cell_tag a b c d i e o x h) =
-    gives (stands a then (stands b then (stands c then (stands d then (expr_between i then (stands e then (stands o then (texpr_between x then stands h))))))))
-    (λ f. set_cell_tag_fits f.0.1 f.1.0.1 f.1.1.0.0 f.1.1.0.1 f.1.1.1.0.1 f.1.1.1.1.0 f.1.1.1.1.1.0.1 f.1.1.1.1.1.1.0.1 f.1.1.1.1.1.1.1.0 f.1.1.1.1.1.1.1.1.1)
-simple_between (g.goto a b) = gives (stands a then stands b) (λ f. goto_fits f.0.1 f.1.0 f.1.1)
-simple_between (g.fall a) = gives (stands a) (λ f. fall_fits f.1)
+    command a and b before plain c and holding d (expr_between i) and e before holding o (texpr_between x) upto h
+simple_between (g.goto a b) = command a and plain b
+simple_between (g.fall a) = command a
 
-do_fits : {version : Version} {n : ℕ} {x : t.SimpleCommand} {c1 c2 c3 : Counts} → FitsSimple version n x c1 c2 → RoleFact r.Plain c2 c3 → FitsCommand version n (t.lone x) c1 c3
-unfolding is_command command_count command_depth
-do_fits a b =
-    let n = a.count in let m = a.room in let l = a.level in let s = a.states in
-    record { is = a.is; count = omega arith; room = omega arith; level = omega arith; states = omega arith }
-
-try_fits : {version : Version} {n : ℕ} {p : Place} {x : t.SimpleCommand} {h : t.CommandBlock} {c1 c2 c3 c4 : Counts} → FitsSimple version n x c1 c2 → RoleFact r.Plain c2 c3
-    → FitsCommands (n + 1) (is_block version h) (block_count h) (block_depth h) c3 c4 → FitsCommand version n (t.try x p h) c1 c4
-unfolding is_command command_count block_count command_depth block_depth
-try_fits a b c =
-    let n = a.count in let m = a.room in let l = a.level in let s = a.states in let n' = c.count in let m' = c.room (omega arith) in
-    let l' = c.level (omega arith) in let s' = c.states in
-    record { is = all_true a.is c.are; count = omega arith; room = omega arith; level = omega arith; states = omega arith }
-
-if_fits : {version : Version} {n : ℕ} {p : Place} {x : t.Expression} {h : t.CommandBlock} {o : t.ElseBlock} {c1 c2 c3 c4 c5 c6 c7 : Counts}
-    → RoleFact (r.Command n) c1 c2 → RoleFact r.Plain c2 c3 → Fits version 0 x c3 c4
-    → RoleFact r.Plain c4 c5 → FitsCommands (n + 1) (is_block version h) (block_count h) (block_depth h) c5 c6
-    → FitsCommands (n + 1) (is_else version o) (else_count o) (else_depth o) c6 c7
-    → FitsCommand version n (t.if_else p x h o) c1 c7
-unfolding is_command command_count block_count else_count command_depth block_depth else_depth
-if_fits a b x d h o =
-    let a0 = a.0 in let a1 = a.1 in let a2 = a.2 in let sx = x.states in let nx = x.commands in
-    let nh = h.count in let mh = h.room (omega arith) in let lh = h.level (omega arith) in let sh = h.states in
-    let no = o.count in let mo = o.room mh in let lo = o.level (omega arith) in let so = o.states in
-    record { is = all_true (all_true (outermost b.tokens b.brackets x) h.are) o.are; count = omega arith; room = omega arith; level = omega arith; states = omega arith }
-
+-- words of the second version
 second_of : (version : Version) → (is_second version || false) ≡ true → is_second version ≡ true
 second_of v.One h = h
 second_of v.Two h = refl
 
-try_then_fits : {version : Version} {n : ℕ} {p : Place} {x : t.SimpleCommand} {a b : t.CommandBlock} {c1 c2 c3 c4 c5 c6 : Counts}
-    → is_second version ≡ true → FitsSimple version n x c1 c2 → RoleFact r.Plain c2 c3
-    → FitsCommands (n + 1) (is_block version a) (block_count a) (block_depth a) c3 c4 → RoleFact r.Plain c4 c5
-    → FitsCommands (n + 1) (is_block version b) (block_count b) (block_depth b) c5 c6
-    → FitsCommand version n (t.try_then x p a b) c1 c6
-unfolding is_command command_count block_count command_depth block_depth
-try_then_fits second x d a e b =
-    let n = x.count in let m = x.room in let l = x.level in let s = x.states in
-    let na = a.count in let ma = a.room (omega arith) in let la = a.level (omega arith) in let sa = a.states in
-    let nb = b.count in let mb = b.room (omega arith) in let lb = b.level (omega arith) in let sb = b.states in
-    record { is = all_true (all_true (all_true second x.is) a.are) b.are; count = omega arith; room = omega arith; level = omega arith; states = omega arith }
+then_test : (x s a b : Bool) → (x && s && (a && b)) ≡ true → (s && x && a && b) ≡ true
+then_test true true a b h = h
+then_test true false a b h = h
+then_test false true a b h = h
+then_test false false a b h = h
 
--- tokens that begin no command
-plain_fits : {n : ℕ} {b : Bool} {c d : Counts} → b ≡ true → RoleFact r.Plain c d → FitsCommands n b 0 0 c d
-plain_fits h a = record { are = h; count = omega arith; room = λ m. omega arith; level = λ l. omega arith; states = omega arith }
+case_test : (x few arms : Bool) → few ≡ true → (x && arms) ≡ true → (x && true && few && arms) ≡ true
+case_test true true arms f h = h
+case_test true false arms f h = f
+case_test false few arms f h = h
 
-no_constants_fit : (n : ℕ) (c : Counts) → FitsCommands n (are_constants t.no_part) 0 0 c c
-no_constants_fit n c = record { are = refl; count = omega arith; room = λ m. m; level = λ l. omega arith; states = refl }
+constant_between : {version : Version} {n : ℕ} {p q : Stage} {x : t.Expression} → g.Constant p x q → Commands version n p q (is_constant x) 0 0
+constant_between (g.plain a) = plain a
+constant_between (g.wide a) = plain a
 
-constants_fit : {n : ℕ} (x : t.Expression) (xs : t.Expressions) {c1 c2 c3 c4 : Counts} → RoleFact r.Plain c1 c2
-    → FitsCommands n (is_constant x) 0 0 c2 c3 → FitsCommands n (are_constants xs) 0 0 c3 c4
-    → FitsCommands n (are_constants (t.and_part x xs)) 0 0 c1 c4
-constants_fit x xs a b d =
-    let nb = b.count in let sb = b.states in let nd = d.count in let sd = d.states in
-    record { are = all_true b.are d.are; count = omega arith; room = λ m. let r1 = b.room (omega arith) in d.room r1; level = λ l. omega arith; states = omega arith }
-
-arm_fits : (version : Version) {n : ℕ} (x : t.Expression) (xs : t.Expressions) (k : t.CommandBlock) {c1 c2 c3 c4 c5 : Counts} → FitsCommands n (is_constant x) 0 0 c1 c2
-    → FitsCommands n (are_constants xs) 0 0 c2 c3 → RoleFact r.Plain c3 c4 → FitsCommands n (is_block version k) (block_count k) (block_depth k) c4 c5
-    → FitsCommands n (are_constants (t.and_part x xs) && is_block version k) (block_count k) (block_depth k) c1 c5
-arm_fits version x xs k a b d h =
-    let na = a.count in let sa = a.states in let nb = b.count in let sb = b.states in let nh = h.count in let sh = h.states in
-    record {
-      are = all_true (all_true a.are b.are) h.are;
-      count = omega arith;
-      room = λ m. let r1 = a.room m in let r2 = b.room r1 in h.room (omega arith);
-      level = h.level;
-      states = omega arith;
-    }
-
-last_fits : (version : Version) {n : ℕ} (h : t.CommandBlock) {c1 c2 c3 : Counts} → RoleFact r.Plain c1 c2
-    → FitsCommands n (is_block version h) (block_count h) (block_depth h) c2 c3
-    → FitsCommands n (are_arms version (t.last_arm h)) (arms_count (t.last_arm h)) (arms_depth (t.last_arm h)) c1 c3
-unfolding is_command block_count arms_count block_depth arms_depth
-last_fits version h a b =
-    let n = b.count in let s = b.states in
-    record { are = b.are; count = omega arith; room = λ m. b.room (omega arith); level = b.level; states = omega arith }
-
-arms_fit : (version : Version) {n : ℕ} (cs : t.Expressions) (h : t.CommandBlock) (arms : t.Arms) {c1 c2 c3 : Counts} → has_constant cs ≡ true
-    → FitsCommands n (are_constants cs && is_block version h) (block_count h) (block_depth h) c1 c2
-    → FitsCommands n (are_arms version arms) (arms_count arms) (arms_depth arms) c2 c3
-    → FitsCommands n (are_arms version (t.and_arm cs h arms)) (arms_count (t.and_arm cs h arms)) (arms_depth (t.and_arm cs h arms)) c1 c3
-unfolding is_command block_count arms_count block_depth arms_depth
-arms_fit version cs h arms some a b =
-    let n = a.count in let s = a.states in let n' = b.count in let s' = b.states in
-    record {
-      are = parts (has_constant cs) (are_constants cs) (is_block version h) (are_arms version arms) some a.are b.are;
-      count = omega arith;
-      room = λ m. b.room (a.room m);
-      level = λ l. let l1 = a.level l in let l2 = b.level l in omega arith;
-      states = omega arith;
-    }
-  where
-    parts : (a b c d : Bool) → a ≡ true → (b && c) ≡ true → d ≡ true → (a && b && c && d) ≡ true
-    parts true true true true e f g = refl
-    parts true true true false e f g = cc
-    parts true true false d e f g = cc
-    parts true false c d e f g = cc
-    parts false b c d e f g = cc
-
-case_fits : {version : Version} {n : ℕ} {p : Place} {x : t.Expression} (arms : t.Arms) {c1 c2 c3 c4 c5 c6 c7 c8 : Counts}
-    → is_second version ≡ true → RoleFact (r.Command n) c1 c2 → RoleFact r.Plain c2 c3
-    → Fits version 0 x c3 c4 → RoleFact r.Plain c4 c5 → RoleFact r.Plain c5 c6 → has_arm arms ≡ true → arm_count arms ≤ most_arms
-    → FitsCommands (n + 1) (are_arms version arms) (arms_count arms) (arms_depth arms) c6 c7 → RoleFact r.Plain c7 c8 → FitsCommand version n (t.case_of p x arms) c1 c8
-unfolding is_command command_count arms_count command_depth arms_depth
-case_fits arms second a b x d e some few f h =
-    let a0 = a.0 in let a1 = a.1 in let a2 = a.2 in let sx = x.states in let nx = x.commands in
-    let nf = f.count in let mf = f.room (omega arith) in let lf = f.level (omega arith) in let sf = f.states in
-    record {
-      is = all_true (all_true (all_true (all_true second (outermost b.tokens b.brackets x)) some) (le_true few)) f.are;
-      count = omega arith;
-      room = omega arith;
-      level = omega arith;
-      states = omega arith;
-    }
-
-no_else_fits : (version : Version) (n : ℕ) (c : Counts) → FitsCommands n (is_else version t.no_else) (else_count t.no_else) (else_depth t.no_else) c c
-unfolding is_command else_count else_depth
-no_else_fits version n c = record { are = refl; count = omega arith; room = λ h. h; level = λ h. omega arith; states = refl }
-
-else_fits : (version : Version) {n : ℕ} (h : t.CommandBlock) {c1 c2 c3 : Counts} → RoleFact r.Plain c1 c2
-    → FitsCommands n (is_block version h) (block_count h) (block_depth h) c2 c3
-    → FitsCommands n (is_else version (t.with_else h)) (else_count (t.with_else h)) (else_depth (t.with_else h)) c1 c3
-unfolding is_command block_count else_count block_depth else_depth
-else_fits version h a b =
-    let n = b.count in let s = b.states in
-    record { are = b.are; count = omega arith; room = λ m. b.room (omega arith); level = b.level; states = omega arith }
-
-block_fits : (version : Version) {n : ℕ} (cs : t.CommandList) (p : Place) {c1 c2 c3 c4 : Counts} → RoleFact r.Plain c1 c2
-    → FitsCommands n (are_commands version cs) (list_count cs) (list_depth cs) c2 c3 → RoleFact r.Plain c3 c4
-    → FitsCommands n (is_block version (t.command_block cs p)) (block_count (t.command_block cs p)) (block_depth (t.command_block cs p)) c1 c4
-unfolding is_command block_count list_count block_depth list_depth
-block_fits version cs p a b d =
-    let n = b.count in let s = b.states in
-    record { are = b.are; count = omega arith; room = λ h. let m = b.room (omega arith) in omega arith; level = b.level; states = omega arith }
-
-no_commands_fit : (version : Version) (n : ℕ) (c : Counts) → FitsCommands n (are_commands version t.no_command) (list_count t.no_command) (list_depth t.no_command) c c
-unfolding is_command list_count list_depth
-no_commands_fit version n c = record { are = refl; count = omega arith; room = λ h. h; level = λ h. omega arith; states = refl }
-
-commands_fit : {version : Version} {n : ℕ} {x : t.Command} (cs : t.CommandList) {c1 c2 c3 : Counts} → FitsCommand version n x c1 c2
-    → FitsCommands n (are_commands version cs) (list_count cs) (list_depth cs) c2 c3
-    → FitsCommands n (are_commands version (t.and_command x cs)) (list_count (t.and_command x cs)) (list_depth (t.and_command x cs)) c1 c3
-unfolding is_command command_count list_count command_depth list_depth
-commands_fit cs a b =
-    let n = a.count in let s = a.states in let l = a.level in let n' = b.count in let s' = b.states in
-    record { are = all_true a.is b.are; count = omega arith; room = λ h. b.room a.room; level = λ h. let l' = b.level h in omega arith; states = omega arith }
-
-constant_between : {version : Version} {n : ℕ} {p q : Stage} {x : t.Expression} → g.Constant p x q
-    → Between version p q (FitsCommands n (is_constant x) 0 0 p.past.counts q.past.counts)
-constant_between (g.plain a) = gives (stands a) (λ f. plain_fits f.0 f.1)
-constant_between (g.wide a) = gives (stands a) (λ f. plain_fits (all_true f.0.0 f.0.1) f.1)
-
-constants_between : {version : Version} {n : ℕ} {p q : Stage} {xs : t.Expressions} → g.Constants p xs q
-    → Between version p q (FitsCommands n (are_constants xs) 0 0 p.past.counts q.past.counts)
-constants_between {n = n} {p = p} g.no_constant = still (no_constants_fit n p.past.counts)
-constants_between (g.constant {x = y} {xs = ys} a x xs) = gives (stands a then (constant_between x then constants_between xs)) (λ f. constants_fit y ys f.0.1 f.1.0 f.1.1)
+constants_between : {version : Version} {n : ℕ} {p q : Stage} {xs : t.Expressions} → g.Constants p xs q → Commands version n p q (are_constants xs) 0 0
+constants_between g.no_constant = nothing
+constants_between (g.constant a x xs) = a before (constant_between x and constants_between xs)
 
 mutual
-  cmd_between : {version : Version} {n : ℕ} {p q : Stage} {x : t.Command} → g.Cmd n p x q → Between version p q (FitsCommand version n x p.past.counts q.past.counts)
-  cmd_between (g.unhandled x a) = gives (simple_between x then stands a) (λ f. do_fits f.0 f.1.1)
-  cmd_between (g.handled x a b) = gives (simple_between x then (stands a then block_between b)) (λ f. try_fits f.0 f.1.0.1 f.1.1)
-  cmd_between (g.branch a b x c y z) =
-      gives (stands a then (stands b then (expr_between x then (stands c then (block_between y then else_between z)))))
-      (λ f. if_fits f.0.1 f.1.0.1 f.1.1.0 f.1.1.1.0.1 f.1.1.1.1.0 f.1.1.1.1.1)
-  cmd_between {version} (g.decided x a b d e) =
-      gives (simple_between x then (stands a then (block_between b then (stands d then block_between e))))
-      (λ f. try_then_fits (second_of version f.1.0.0) f.0 f.1.0.1 f.1.1.0 f.1.1.1.0.1 f.1.1.1.1)
-  cmd_between {version} (g.case {constants = cs} {block = h} {arms = arms} a b x d e y z f) =
-      gives (sized (stands a then (stands b then (expr_between x then (stands d then (stands e then (arm_between y then (arms_between z then stands f))))))))
-      (λ k.
-      let m = k.1 in
-      let l1 = one_less a in let l2 = one_less b in let l3 = (expr_between {version = version} x).less in let l4 = one_less d in let l5 = one_less e in
-      let l6 = arm_less version y in let l7 = arms_less version z in
-      let few : arm_count (t.and_arm cs h arms) ≤ most_arms = omega arith in
-      case_fits (t.and_arm cs h arms) (second_of version k.0.0.0) k.0.0.1 k.0.1.0.1 k.0.1.1.0 k.0.1.1.1.0.1 k.0.1.1.1.1.0.1 refl few
-      (arms_fit version cs h arms k.0.1.1.1.1.1.0.0 k.0.1.1.1.1.1.0.1 k.0.1.1.1.1.1.1.0) k.0.1.1.1.1.1.1.1.1)
+  unfolding is_command command_count block_count else_count arms_count list_count command_depth block_depth else_depth arms_depth list_depth
+
+  cmd_between : {version : Version} {n : ℕ} {p q : Stage} {x : t.Command} → g.Cmd n p x q → Commands version n p q (is_command version x) (command_count x) (command_depth x)
+  cmd_between (g.unhandled x a) = simple_between x upto a
+  cmd_between (g.handled x a b) = simple_between x upto a owns block_between b
+  cmd_between {version} (g.branch {x = i} {yes = one} {no = other} a b x c y z) =
+      gives (command a and holding b (expr_between x) upto c owns (block_between y and else_between z))
+      (λ f. tested f (all_of (is_outermost version i) (is_block version one) (is_else version other) f.test))
+  cmd_between {version} (g.decided {c = c} {accepted = one} {refused = other} x a b d e) =
+      gives (simple_between x and plainly a (second_of version) owns (block_between b and d before block_between e))
+      (λ f. tested f (then_test (is_simple version c) (is_second version) (is_block version one) (is_block version other) f.test))
+  cmd_between {version} (g.case {arms = arms} a b x d e y z f) =
+      let front = begun a (second_of version) and holding b (expr_between x) upto d upto e in
+      gives (sized (front owns (arm_between y and arms_between z) upto f)) (λ k.
+      let m = k.1 in let l1 = front.less in let l2 = arm_less version y in let l3 = arms_less version z in
+      let few : 1 + arm_count arms ≤ most_arms = omega arith in
+      tested k.0 (case_test _ _ _ (le_true few) k.0.test))
 
   arm_less : (version : Version) {n : ℕ} {p q : Stage} {cs : t.Expressions} {h : t.CommandBlock} → g.Arm n p cs h q → length q.left + 1 ≤ length p.left
   arm_less version {n} (g.arm x xs a h) =
@@ -425,25 +174,20 @@ mutual
   arms_less version (g.and_arm a b) = let l1 = arm_less version a in let l2 = arms_less version b in omega arith
 
   arm_between : {version : Version} {n : ℕ} {p q : Stage} {cs : t.Expressions} {h : t.CommandBlock} → g.Arm n p cs h q
-      → Between version p q ((has_constant cs ≡ true) × FitsCommands n (are_constants cs && is_block version h) (block_count h) (block_depth h) p.past.counts q.past.counts)
-  arm_between {version} (g.arm {x = y} {xs = ys} {block = b} x xs a h) =
-      gives (constant_between x then (constants_between xs then (stands a then block_between h))) (λ f. (refl, arm_fits version y ys b f.0 f.1.0 f.1.1.0.1 f.1.1.1))
+      → Commands version n p q (has_constant cs && are_constants cs && is_block version h) (block_count h) (block_depth h)
+  arm_between (g.arm x xs a h) = joined (constant_between x and constants_between xs) (a before block_between h) all_true refl (omega arith) (omega arith)
 
-  arms_between : {version : Version} {n : ℕ} {p q : Stage} {x : t.Arms} → g.Arms n p x q
-      → Between version p q (FitsCommands n (are_arms version x) (arms_count x) (arms_depth x) p.past.counts q.past.counts)
-  arms_between {version} (g.last a b) = gives (stands a then block_between b) (λ f. last_fits version _ f.0.1 f.1)
-  arms_between {version} (g.and_arm a b) = gives (arm_between a then arms_between b) (λ f. arms_fit version _ _ _ f.0.0 f.0.1 f.1)
+  arms_between : {version : Version} {n : ℕ} {p q : Stage} {x : t.Arms} → g.Arms n p x q → Commands version n p q (are_arms version x) (arms_count x) (arms_depth x)
+  arms_between (g.last a b) = a before block_between b
+  arms_between (g.and_arm a b) = arm_between a and arms_between b
 
-  else_between : {version : Version} {n : ℕ} {p q : Stage} {x : t.ElseBlock} → g.Else n p x q
-      → Between version p q (FitsCommands n (is_else version x) (else_count x) (else_depth x) p.past.counts q.past.counts)
-  else_between {version} {n} {p} g.no_else = still (no_else_fits version n p.past.counts)
-  else_between {version} (g.else a b) = gives (stands a then block_between b) (λ f. else_fits version _ f.0.1 f.1)
+  else_between : {version : Version} {n : ℕ} {p q : Stage} {x : t.ElseBlock} → g.Else n p x q → Commands version n p q (is_else version x) (else_count x) (else_depth x)
+  else_between g.no_else = nothing
+  else_between (g.else a b) = a before block_between b
 
-  block_between : {version : Version} {n : ℕ} {p q : Stage} {x : t.CommandBlock} → g.Block n p x q
-      → Between version p q (FitsCommands n (is_block version x) (block_count x) (block_depth x) p.past.counts q.past.counts)
-  block_between {version} (g.block a cs b) = gives (stands a then (cmds_between cs then stands b)) (λ f. block_fits version _ _ f.0.1 f.1.0 f.1.1.1)
+  block_between : {version : Version} {n : ℕ} {p q : Stage} {x : t.CommandBlock} → g.Block n p x q → Commands version n p q (is_block version x) (block_count x) (block_depth x)
+  block_between (g.block a cs b) = a before cmds_between cs upto b
 
-  pub cmds_between : {version : Version} {n : ℕ} {p q : Stage} {x : t.CommandList} → g.Cmds n p x q
-      → Between version p q (FitsCommands n (are_commands version x) (list_count x) (list_depth x) p.past.counts q.past.counts)
-  cmds_between {version} {n} {p} g.no_cmd = still (no_commands_fit version n p.past.counts)
-  cmds_between (g.cmd c cs) = gives (cmd_between c then cmds_between cs) (λ f. commands_fit _ f.0 f.1)
+  pub cmds_between : {version : Version} {n : ℕ} {p q : Stage} {x : t.CommandList} → g.Cmds n p x q → Commands version n p q (are_commands version x) (list_count x) (list_depth x)
+  cmds_between g.no_cmd = nothing
+  cmds_between (g.cmd c cs) = cmd_between c and cmds_between cs

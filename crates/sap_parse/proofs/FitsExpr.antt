@@ -1,14 +1,13 @@
--- An expression of a text within the limits is within its own: it has at least the tokens and brackets of its canonical text.
-use Rattle.sap_lemmas.proofs.Common.{◌≡◌, ◌≤◌, ◌+◌, ℕ, List, max, true, refl, subst, ◌∙◌, arith, nat_tests}
+-- An expression or tag expression of a text within the limits is within its own: it has at least the tokens and brackets of its canonical text.
+use Rattle.sap_lemmas.proofs.Common.{◌≡◌, ◌≤◌, ◌+◌, ℕ, max, Bool, true, refl, ap, ◌∙◌, arith, nat_tests, nat_le, ◌&&◌}
 use Rattle.sap_parse.specs.Grammar as g
 use Rattle.sap_parse.specs.Limits.{Counts}
-use Rattle.sap_parse.specs.Stages.{Stage}
+use Rattle.sap_parse.specs.Stages.{Stage, IsToken, here}
 use Rattle.sap_parse.specs.declared.role.Role.TheVariants as r
-use Rattle.sap_parse.proofs.Between.{all_true, le_true, Between, ◌then◌, gives, still, stands, RoleFact}
-use Rattle.sap_tree.specs.Prelude.{tokens, part_tokens, brackets, part_brackets, parentheses, opened, precedence, unary_precedence, slice_precedence, primary_precedence, precedence_of, enclosed, is_number, is_expression, are_expressions, is_outermost, is_name}
-use Rattle.sap_tree.specs.declared.place.Spot.{Spot}
-use Rattle.sap_tree.specs.declared.syntax.BinaryOperator.{BinaryOperator}
-use Rattle.sap_tree.specs.declared.syntax.UnaryOperator.{UnaryOperator}
+use Rattle.sap_lex.specs.declared.token.Kind.TheVariants as k
+use Rattle.sap_lex.specs.declared.token.Kind.{Kind}
+use Rattle.sap_parse.proofs.Between.{all_true, le_true, Between, ◌then◌, gives, still, stands, KindFact}
+use Rattle.sap_tree.specs.Prelude.{tokens, part_tokens, brackets, part_brackets, tag_tokens, tag_part_tokens, tag_brackets, tag_part_brackets, parentheses, opened, unary_precedence, slice_precedence, primary_precedence, precedence_of, enclosed, first_of, is_number, is_expression, are_expressions, is_tag, are_tags, is_name}
 use Rattle.sap_tree.specs.declared.version.Version.{Version}
 use Rattle.sap_tree.specs.Syntax as t
 use Rattle.sap_text.specs.declared.place.Place.{Place}
@@ -45,458 +44,199 @@ no_opens : (l : ℕ) (x : t.Expression) → l ≤ precedence_of x → opens l x 
 unfolding opens
 no_opens l x h = grind (arith, nat_tests)
 
--- what each construct has
-
-cell_tokens : (s : Spot) (n : List ℕ) (i : t.Expression) → tokens (t.cell_at s n i) ≡ tokens i + 3
-unfolding tokens
-cell_tokens s n i = refl
-
-cell_brackets : (s : Spot) (n : List ℕ) (i : t.Expression) → brackets (t.cell_at s n i) ≡ 1 + brackets i
-unfolding brackets
-cell_brackets s n i = refl
-
-unary_tokens : (s : Spot) (o : UnaryOperator) (x : t.Expression) → tokens (t.unary_of s o x) ≡ 1 + (pars unary_precedence x + tokens x)
-unfolding tokens pars
-unary_tokens s o x = refl
-
-unary_brackets : (s : Spot) (o : UnaryOperator) (x : t.Expression) → brackets (t.unary_of s o x) ≡ opens unary_precedence x + brackets x
-unfolding brackets opens
-unary_brackets s o x = refl
-
-binary_tokens : (s : Spot) (o : BinaryOperator) (x y : t.Expression)
-    → tokens (t.binary_of s o x y) ≡ pars (precedence o) x + tokens x + 1 + (pars (precedence o + 1) y + tokens y)
-unfolding tokens pars
-binary_tokens s o x y = refl
-
-binary_brackets : (s : Spot) (o : BinaryOperator) (x y : t.Expression)
-    → brackets (t.binary_of s o x y) ≡ max (opens (precedence o) x + brackets x) (opens (precedence o + 1) y + brackets y)
-unfolding brackets opens
-binary_brackets s o x y = refl
-
-choose_tokens : (s : Spot) (x y z : t.Expression) → tokens (t.choice s x y z) ≡ pars 1 x + tokens x + 1 + tokens y + 1 + tokens z
-unfolding tokens pars
-choose_tokens s x y z = refl
-
-choose_brackets : (s : Spot) (x y z : t.Expression) → brackets (t.choice s x y z) ≡ max (opens 1 x + brackets x) (max (brackets y) (brackets z))
-unfolding brackets opens
-choose_brackets s x y z = refl
-
-slice_tokens : (s : Spot) (x : t.Expression) (h l : ℕ) → tokens (t.slice s x h l) ≡ pars slice_precedence x + tokens x + 5
-unfolding tokens pars
-slice_tokens s x h l = refl
-
-slice_brackets : (s : Spot) (x : t.Expression) (h l : ℕ) → brackets (t.slice s x h l) ≡ max (opens slice_precedence x + brackets x) 1
-unfolding brackets opens
-slice_brackets s x h l = refl
-
-concat_tokens : (s : Spot) (x y : t.Expression) (xs : t.Expressions)
-    → tokens (t.concat s (t.and_part x (t.and_part y xs))) ≡ 1 + (tokens x + 1 + (tokens y + 1 + part_tokens xs))
-unfolding tokens
-concat_tokens s x y xs = refl
-
-concat_brackets : (s : Spot) (x y : t.Expression) (xs : t.Expressions)
-    → brackets (t.concat s (t.and_part x (t.and_part y xs))) ≡ 1 + max (brackets x) (max (brackets y) (part_brackets xs))
-unfolding brackets
-concat_brackets s x y xs = refl
-
-zext_tokens : (s : Spot) (x : t.Expression) (w : ℕ) → tokens (t.zero_extend s x w) ≡ tokens x + 5
-unfolding tokens
-zext_tokens s x w = refl
-
-zext_brackets : (s : Spot) (x : t.Expression) (w : ℕ) → brackets (t.zero_extend s x w) ≡ 1 + brackets x
-unfolding brackets
-zext_brackets s x w = refl
-
 -- an expression in parentheses is the same but for its place
 
 enclosed_tokens : (p : Place) (x : t.Expression) → tokens (enclosed p x) ≡ tokens x
 unfolding enclosed tokens
 enclosed_tokens p (t.literal s n) = refl
-enclosed_tokens p (t.sized_literal s w n) = refl
-enclosed_tokens p (t.variable s n) = refl
-enclosed_tokens p (t.cell_at s n i) = refl
-enclosed_tokens p (t.unary_of s o x) = refl
-enclosed_tokens p (t.binary_of s o x y) = refl
-enclosed_tokens p (t.choice s x y z) = refl
-enclosed_tokens p (t.slice s x h l) = refl
-enclosed_tokens p (t.concat s xs) = refl
-enclosed_tokens p (t.zero_extend s x w) = refl
+enclosed_tokens p _ = refl
 
 enclosed_brackets : (p : Place) (x : t.Expression) → brackets (enclosed p x) ≡ brackets x
 unfolding enclosed brackets
 enclosed_brackets p (t.literal s n) = refl
-enclosed_brackets p (t.sized_literal s w n) = refl
-enclosed_brackets p (t.variable s n) = refl
-enclosed_brackets p (t.cell_at s n i) = refl
-enclosed_brackets p (t.unary_of s o x) = refl
-enclosed_brackets p (t.binary_of s o x y) = refl
-enclosed_brackets p (t.choice s x y z) = refl
-enclosed_brackets p (t.slice s x h l) = refl
-enclosed_brackets p (t.concat s xs) = refl
-enclosed_brackets p (t.zero_extend s x w) = refl
+enclosed_brackets p _ = refl
 
 enclosed_is : (version : Version) (p : Place) (x : t.Expression) → is_expression version (enclosed p x) ≡ is_expression version x
 unfolding enclosed is_expression
 enclosed_is version p (t.literal s n) = refl
-enclosed_is version p (t.sized_literal s w n) = refl
-enclosed_is version p (t.variable s n) = refl
-enclosed_is version p (t.cell_at s n i) = refl
-enclosed_is version p (t.unary_of s o x) = refl
-enclosed_is version p (t.binary_of s o x y) = refl
-enclosed_is version p (t.choice s x y z) = refl
-enclosed_is version p (t.slice s x h l) = refl
-enclosed_is version p (t.concat s xs) = refl
-enclosed_is version p (t.zero_extend s x w) = refl
+enclosed_is version p _ = refl
 
--- what an expression from one stage to another gives of their counts, where its place asks for this precedence
-pub record Fits (version : Version) (l : ℕ) (x : t.Expression) (c d : Counts) : Type 0 where
-  pub is : is_expression version x ≡ true
-  pub size : c.tokens + (pars l x + tokens x) ≤ d.tokens
-  pub room : d.tokens ≤ 256
-  pub even : d.brackets ≡ c.brackets
-  pub depth : c.brackets ≤ 64 → c.brackets + (opens l x + brackets x) ≤ 64
-  pub states : d.states ≡ c.states
-  pub commands : d.commands ≡ c.commands
+-- tests
 
--- and what makes y of x
-pub record Grows (version : Version) (l : ℕ) (x y : t.Expression) (c d : Counts) : Type 0 where
-  pub is : is_expression version x ≡ true → is_expression version y ≡ true
-  pub size : pars l y + tokens y + c.tokens ≤ pars l x + tokens x + d.tokens
+pub all_of : (a b c : Bool) → (a && (b && c)) ≡ true → (a && b && c) ≡ true
+all_of true b c h = h
+all_of _ b c h = h
+
+-- what is tested of a token of this kind
+abbrev pub kind_is : Version → Kind → Bool
+kind_is version (k.Name name) = is_name version name
+kind_is version (k.Number n) = is_number n
+kind_is version (k.Sized width n) = is_number width && is_number n
+kind_is version _ = true
+
+pub kind_true : (version : Version) (kind : Kind) → KindFact version kind → kind_is version kind ≡ true
+kind_true version (k.Name name) h = h
+kind_true version (k.Number n) h = h
+kind_true version (k.Sized width n) h = all_true h.0 h.1
+kind_true version (k.Word word) h = refl
+kind_true version (k.Sign sign) h = refl
+
+-- between these counts are tokens of an expression: what is tested of them; at least so many of them; and their brackets, so deep or deeper
+pub record Fits (is : Bool) (n l : ℕ) (c d : Counts) : Type 0 where
+  pub test : is ≡ true
+  pub size : c.tokens + n ≤ d.tokens
   pub room : c.tokens ≤ 256 → d.tokens ≤ 256
   pub even : d.brackets ≡ c.brackets
-  pub depth : c.brackets ≤ 64 → c.brackets + (opens l x + brackets x) ≤ 64 → c.brackets + (opens l y + brackets y) ≤ 64
+  pub depth : c.brackets ≤ 64 → c.brackets + l ≤ 64
   pub states : d.states ≡ c.states
   pub commands : d.commands ≡ c.commands
 
-pub record FitsBounds (high low : ℕ) (c d : Counts) : Type 0 where
-  pub high_is : is_number high ≡ true
-  pub low_is : is_number low ≡ true
-  pub size : d.tokens ≡ c.tokens + 5
-  pub room : d.tokens ≤ 256
-  pub even : d.brackets ≡ c.brackets
-  pub depth : c.brackets + 1 ≤ 64
-  pub states : d.states ≡ c.states
-  pub commands : d.commands ≡ c.commands
+abbrev pub Spans : Version → Stage → Stage → Bool → ℕ → ℕ → Type 0
+Spans version p q is n l = Between version p q (Fits is n l p.past.counts q.past.counts)
 
-pub record FitsParts (version : Version) (xs : t.Expressions) (c d : Counts) : Type 0 where
-  pub are : are_expressions version xs ≡ true
-  pub size : c.tokens + part_tokens xs ≤ d.tokens
-  pub room : c.tokens ≤ 256 → d.tokens ≤ 256
-  pub even : d.brackets ≡ c.brackets
-  pub depth : c.brackets ≤ 64 → c.brackets + part_brackets xs ≤ 64
-  pub states : d.states ≡ c.states
-  pub commands : d.commands ≡ c.commands
+nothing : {version : Version} {p : Stage} → Spans version p p true 0 0
+nothing = still (record { test = refl; size = omega arith; room = λ h. h; even = refl; depth = λ h. omega arith; states = refl; commands = refl })
 
-lower : {version : Version} (l k : ℕ) {x : t.Expression} {c d : Counts} → l ≤ k → Fits version k x c d → Fits version l x c d
-lower l k {x} le f = record {
-  is = f.is;
-  size = let up = pars_up l k x le in let s = f.size in omega arith;
-  room = f.room;
-  even = f.even;
-  depth = λ h. let up = opens_up l k x le in let s = f.depth h in omega arith;
-  states = f.states;
-  commands = f.commands;
-}
-
-grown : {version : Version} {l : ℕ} {x y : t.Expression} {c d e : Counts} → Fits version l x c d → Grows version l x y d e → Fits version l y c e
-grown f g = record {
-  is = g.is f.is;
-  size = let s = f.size in let u = g.size in omega arith;
-  room = g.room f.room;
-  even = g.even ∙ f.even;
-  depth = λ h. let even = f.even in let s = f.depth h in let u = g.depth (omega arith) (omega arith) in omega arith;
-  states = g.states ∙ f.states;
-  commands = g.commands ∙ f.commands;
-}
-
-grows_none : {version : Version} (l : ℕ) (x : t.Expression) (c : Counts) → Grows version l x x c c
-grows_none l x c = record { is = λ h. h; size = omega arith; room = λ h. h; even = refl; depth = λ h s. s; states = refl; commands = refl }
-
-bounds_fit : {high low : ℕ} {c1 c2 c3 c4 c5 c6 : Counts} → RoleFact r.Opening c1 c2 → is_number high ≡ true → RoleFact r.Inner c2 c3 → RoleFact r.Inner c3 c4
-    → is_number low ≡ true → RoleFact r.Inner c4 c5 → RoleFact r.Closing c5 c6 → FitsBounds high low c1 c6
-bounds_fit a h b c l d e =
-    let a0 = a.0 in let a1 = a.1 in let a2 = a.2 in let b0 = b.0 in let b1 = b.1 in let c0 = c.0 in let c1 = c.1 in let d0 = d.0 in let d1 = d.1 in let e0 = e.0 in let e1 = e.1 in
+joined : {version : Version} {o p q : Stage} {a b is : Bool} {n m l k i j : ℕ} → Spans version o p a n l → Spans version p q b m k
+    → (a ≡ true → b ≡ true → is ≡ true) → i ≤ n + m → j ≤ max l k → Spans version o q is i j
+joined x y test fewer less = gives (x then y) (λ f.
+    let e = f.0.even in let s = f.0.size in let t = f.1.size in
     record {
-      high_is = h;
-      low_is = l;
+      test = test f.0.test f.1.test;
       size = omega arith;
-      room = e0.room;
+      room = λ h. f.1.room (f.0.room h);
+      even = f.1.even ∙ e;
+      depth = λ h. let u = f.0.depth h in let v = f.1.depth (omega arith) in omega arith;
+      states = f.1.states ∙ f.0.states;
+      commands = f.1.commands ∙ f.0.commands;
+    })
+
+infixl 10 ◌and◌
+◌and◌ : {version : Version} {o p q : Stage} {a b : Bool} {n m l k : ℕ} → Spans version o p a n l → Spans version p q b m k → Spans version o q (a && b) (n + m) (max l k)
+x and y = joined x y all_true (omega arith) (omega arith)
+
+eases : {version : Version} {p q : Stage} {a b : Bool} {n m l k : ℕ} → Spans version p q a n l → (a ≡ true → b ≡ true) → m ≤ n → k ≤ l → Spans version p q b m k
+eases s h fewer less = joined s nothing (λ e f. h e) (omega arith) (omega arith)
+
+-- a token with what is tested of it
+token : {version : Version} {p q : Stage} {kind : Kind} → IsToken p r.Inner kind q → Spans version p q (kind_is version kind) 1 0
+token {version} {kind = kind} a = gives (stands a) (λ f.
+    let b = f.1.0 in
+    record { test = kind_true version kind f.0; size = omega arith; room = λ h. b.room; even = f.1.1; depth = λ h. omega arith; states = b.states; commands = b.commands })
+
+-- and one of which nothing is
+infixr 12 ◌before◌
+◌before◌ : {version : Version} {o p q : Stage} {kind : Kind} {a : Bool} {n l : ℕ} → IsToken o r.Inner kind p → Spans version p q a n l → Spans version o q a (1 + n) l
+x before y = joined (token x) y (λ e f. f) (omega arith) (omega arith)
+
+within : {version : Version} {o p q s : Stage} {i j : Kind} {a : Bool} {n l : ℕ} → IsToken o r.Opening i p → Spans version p q a n l → IsToken q r.Closing j s
+    → Spans version o s a (n + 2) (l + 1)
+within x y z = gives (stands x then (y then stands z)) (λ f.
+    let o = f.0.1 in let o0 = o.0 in let o1 = o.1 in let o2 = o.2 in let m = f.1.0 in let c = f.1.1.1 in let c0 = c.0 in let c1 = c.1 in
+    let e = m.even in let s = m.size in
+    record {
+      test = m.test;
+      size = omega arith;
+      room = λ h. c0.room;
       even = omega arith;
-      depth = omega arith;
-      states = omega arith;
-      commands = omega arith;
-    }
+      depth = λ h. let u = m.depth (omega arith) in omega arith;
+      states = c0.states ∙ (m.states ∙ o0.states);
+      commands = c0.commands ∙ (m.commands ∙ o0.commands);
+    })
 
-bounds_between : {version : Version} {p q : Stage} {high low : ℕ} → g.Bounds p high low q → Between version p q (FitsBounds high low p.past.counts q.past.counts)
-bounds_between (g.bounds a b c d e) =
-    gives (stands a then (stands b then (stands c then (stands d then stands e)))) (λ f. bounds_fit f.0.1 f.1.0.0 f.1.0.1 f.1.1.0.1 f.1.1.1.0.0 f.1.1.1.0.1 f.1.1.1.1.1)
+-- expressions, where their places ask for this precedence
 
-cut_grows : {version : Version} {x y : t.Expression} {s : Spot} {high low : ℕ} {c d e : Counts} → FitsBounds high low c d
-    → Grows version slice_precedence (t.slice s x high low) y d e → Grows version slice_precedence x y c e
-unfolding is_expression precedence_of
-cut_grows {x} {y} {s} {high} {low} b m =
-    let size = slice_tokens s x high low in
-    let nest = slice_brackets s x high low in
-    let bare = no_pars slice_precedence (t.slice s x high low) (omega arith) in
-    let shut = no_opens slice_precedence (t.slice s x high low) (omega arith) in
-    let even = b.even in let deep = b.depth in let u = m.size in let v = b.size in
-    record {
-      is = λ h. m.is (all_true (all_true h b.high_is) b.low_is);
-      size = omega arith;
-      room = λ h. m.room b.room;
-      even = m.even ∙ b.even;
-      depth = λ h s. let w = m.depth (omega arith) (omega arith) in omega arith;
-      states = m.states ∙ b.states;
-      commands = m.commands ∙ b.commands;
-    }
+abbrev Operand : Version → ℕ → Stage → t.Expression → Stage → Type 0
+Operand version l p x q = Spans version p q (is_expression version x) (pars l x + tokens x) (opens l x + brackets x)
 
-other_grows : {version : Version} {l : ℕ} {x y z : t.Expression} {s : Spot} (o : BinaryOperator) {c1 c2 c3 c4 : Counts} → precedence o ≡ l
-    → RoleFact r.Inner c1 c2 → Fits version (l + 1) y c2 c3
-    → Grows version l (t.binary_of s o x y) z c3 c4 → Grows version l x z c1 c4
-unfolding is_expression precedence_of
-other_grows {l} {x} {y} {z} {s} o level a b m =
-    let size : tokens (t.binary_of s o x y) ≡ pars l x + tokens x + 1 + (pars (l + 1) y + tokens y)
-    = subst (λ k. tokens (t.binary_of s o x y) ≡ pars k x + tokens x + 1 + (pars (k + 1) y + tokens y)) level (binary_tokens s o x y) in
-    let nest : brackets (t.binary_of s o x y) ≡ max (opens l x + brackets x) (opens (l + 1) y + brackets y)
-    = subst (λ k. brackets (t.binary_of s o x y) ≡ max (opens k x + brackets x) (opens (k + 1) y + brackets y)) level (binary_brackets s o x y) in
-    let bare = no_pars l (t.binary_of s o x y) (omega arith) in
-    let shut = no_opens l (t.binary_of s o x y) (omega arith) in
-    let a0 = a.0 in let a1 = a.1 in let even = b.even in let u = m.size in let v = b.size in
-    record {
-      is = λ h. m.is (all_true h b.is);
-      size = omega arith;
-      room = λ h. m.room b.room;
-      even = omega (arith, m.even, b.even);
-      depth = λ h s. let deep = b.depth (omega arith) in let w = m.depth (omega arith) (omega arith) in omega arith;
-      states = omega (arith, m.states, b.states);
-      commands = omega (arith, m.commands, b.commands);
-    }
+lower : {version : Version} (l k : ℕ) (x : t.Expression) {p q : Stage} → l ≤ k → Operand version k p x q → Operand version l p x q
+lower l k x le s =
+    let up = pars_up l k x le in let deep = opens_up l k x le in
+    eases s (λ h. h) (omega arith) (omega arith)
 
-choose_fits : {version : Version} {x y z : t.Expression} {s : Spot} {c1 c2 c3 c4 c5 c6 : Counts} → Fits version 1 x c1 c2
-    → RoleFact r.Inner c2 c3 → Fits version 0 y c3 c4 → RoleFact r.Inner c4 c5 → Fits version 0 z c5 c6
-    → Fits version 0 (t.choice s x y z) c1 c6
-unfolding is_expression precedence_of
-choose_fits {x} {y} {z} {s} a b c d e =
-    let size = choose_tokens s x y z in
-    let nest = choose_brackets s x y z in
-    let bare = no_pars 0 (t.choice s x y z) (omega arith) in
-    let shut = no_opens 0 (t.choice s x y z) (omega arith) in
-    let b0 = b.0 in let b1 = b.1 in let d0 = d.0 in let d1 = d.1 in
-    let e1 = a.even in let e2 = c.even in let e3 = e.even in
-    let s1 = a.size in let s2 = c.size in let s3 = e.size in
-    record {
-      is = all_true (all_true a.is c.is) e.is;
-      size = omega arith;
-      room = e.room;
-      even = omega arith;
-      depth = λ h. let d1 = a.depth h in let d2 = c.depth (omega arith) in let d3 = e.depth (omega arith) in omega arith;
-      states = omega (arith, a.states, c.states, e.states);
-      commands = omega (arith, a.commands, c.commands, e.commands);
-    }
+-- a construct that binds as tightly as its place asks for
+whole : {version : Version} {p q : Stage} {a : Bool} {n m : ℕ} (l : ℕ) (x : t.Expression) → Spans version p q a n m → (a ≡ true → is_expression version x ≡ true)
+    → l ≤ precedence_of x → tokens x ≤ n → brackets x ≤ m → Operand version l p x q
+whole l x s h tight size nest =
+    let bare = no_pars l x tight in let shut = no_opens l x tight in
+    eases s h (omega arith) (omega arith)
 
-unary_fits : {version : Version} {x : t.Expression} {s : Spot} {o : UnaryOperator} {c1 c2 c3 : Counts} → RoleFact r.Inner c1 c2
-    → Fits version unary_precedence x c2 c3 → Fits version unary_precedence (t.unary_of s o x) c1 c3
-unfolding is_expression precedence_of
-unary_fits {x} {s} {o} a b =
-    let size = unary_tokens s o x in
-    let nest = unary_brackets s o x in
-    let bare = no_pars unary_precedence (t.unary_of s o x) (omega arith) in
-    let shut = no_opens unary_precedence (t.unary_of s o x) (omega arith) in
-    let a0 = a.0 in let a1 = a.1 in let e1 = b.even in let s1 = b.size in
-    record {
-      is = b.is;
-      size = omega arith;
-      room = b.room;
-      even = omega arith;
-      depth = λ h. let d1 = b.depth (omega arith) in omega arith;
-      states = omega (arith, b.states);
-      commands = omega (arith, b.commands);
-    }
+bounds_between : {version : Version} {p q : Stage} {high low : ℕ} → g.Bounds p high low q → Spans version p q (is_number high && is_number low) 5 1
+bounds_between (g.bounds a b c d e) = within a (token b and c before token d) e
 
--- one token
-one_fits : {version : Version} (x : t.Expression) {c d : Counts} → is_expression version x ≡ true → tokens x ≡ 1 → brackets x ≡ 0
-    → precedence_of x ≡ primary_precedence → RoleFact r.Inner c d → Fits version primary_precedence x c d
-one_fits x is size nest level a =
-    let bare = no_pars primary_precedence x (omega arith) in
-    let shut = no_opens primary_precedence x (omega arith) in
-    let a0 = a.0 in let a1 = a.1 in
-    record {
-      is = is;
-      size = omega arith;
-      room = a0.room;
-      even = a1;
-      depth = λ h. omega arith;
-      states = a0.states;
-      commands = a0.commands;
-    }
+-- slices of an operand that ends where they begin
+cuts_between : {version : Version} {o p q : Stage} {x y : t.Expression} → g.Cuts x p y q → Operand version slice_precedence o x p → Operand version slice_precedence o y q
+unfolding is_expression precedence_of tokens brackets pars opens
+cuts_between g.no_cut s = s
+cuts_between {version} {p = p} {x = x} (g.cut {high = high} {low = low} b more) s =
+    let all = t.slice (record { first = first_of x; at = here p }) x high low in
+    cuts_between more (whole slice_precedence all (s and bounds_between b) (all_of (is_expression version x) (is_number high) (is_number low)) (omega arith) (omega arith) (omega arith))
 
-cell_fits : {version : Version} {n : List ℕ} {i : t.Expression} {s : Spot} {c1 c2 c3 c4 c5 : Counts} → is_name version n ≡ true
-    → RoleFact r.Inner c1 c2 → RoleFact r.Opening c2 c3 → Fits version 0 i c3 c4 → RoleFact r.Closing c4 c5
-    → Fits version primary_precedence (t.cell_at s n i) c1 c5
-unfolding is_expression precedence_of
-cell_fits {n} {i} {s} is a b c d =
-    let size = cell_tokens s n i in
-    let nest = cell_brackets s n i in
-    let bare = no_pars primary_precedence (t.cell_at s n i) (omega arith) in
-    let shut = no_opens primary_precedence (t.cell_at s n i) (omega arith) in
-    let a0 = a.0 in let a1 = a.1 in let b0 = b.0 in let b1 = b.1 in let b2 = b.2 in let d0 = d.0 in let d1 = d.1 in let e1 = c.even in let s1 = c.size in
-    record {
-      is = all_true is c.is;
-      size = omega arith;
-      room = d0.room;
-      even = omega arith;
-      depth = λ h. let e1 = c.depth (omega arith) in omega arith;
-      states = omega (arith, c.states);
-      commands = omega (arith, c.commands);
-    }
-
-enclosed_fits : {version : Version} (x : t.Expression) (p : Place) {c1 c2 c3 c4 : Counts} → RoleFact r.Opening c1 c2
-    → Fits version 0 x c2 c3 → RoleFact r.Closing c3 c4 → Fits version primary_precedence (enclosed p x) c1 c4
-enclosed_fits x p a b c =
-    let size = enclosed_tokens p x in
-    let nest = enclosed_brackets p x in
-    let bare = pars_most primary_precedence (enclosed p x) in
-    let shut = opens_most primary_precedence (enclosed p x) in
-    let a0 = a.0 in let a1 = a.1 in let a2 = a.2 in let c0 = c.0 in let c1 = c.1 in let e1 = b.even in let s1 = b.size in
-    record {
-      is = enclosed_is _ p x ∙ b.is;
-      size = omega arith;
-      room = c0.room;
-      even = omega arith;
-      depth = λ h. let d1 = b.depth (omega arith) in omega arith;
-      states = omega (arith, b.states);
-      commands = omega (arith, b.commands);
-    }
-
-concat_fits : {version : Version} {x y : t.Expression} {xs : t.Expressions} {s : Spot} {c1 c2 c3 c4 c5 c6 c7 : Counts}
-    → RoleFact r.Opening c1 c2 → Fits version 0 x c2 c3 → RoleFact r.Inner c3 c4 → Fits version 0 y c4 c5
-    → FitsParts version xs c5 c6 → RoleFact r.Closing c6 c7 → Fits version primary_precedence (t.concat s (t.and_part x (t.and_part y xs))) c1 c7
-unfolding is_expression precedence_of
-concat_fits {x} {y} {xs} {s} a b c d e f =
-    let size = concat_tokens s x y xs in
-    let nest = concat_brackets s x y xs in
-    let bare = no_pars primary_precedence (t.concat s (t.and_part x (t.and_part y xs))) (omega arith) in
-    let shut = no_opens primary_precedence (t.concat s (t.and_part x (t.and_part y xs))) (omega arith) in
-    let a0 = a.0 in let a1 = a.1 in let a2 = a.2 in let c0 = c.0 in let c1 = c.1 in let f0 = f.0 in let f1 = f.1 in
-    let e1 = b.even in let e2 = d.even in let e3 = e.even in let s1 = b.size in let s2 = d.size in let s3 = e.size in
-    record {
-      is = all_true b.is (all_true d.is e.are);
-      size = omega arith;
-      room = f0.room;
-      even = omega arith;
-      depth = λ h. let d1 = b.depth (omega arith) in let d2 = d.depth (omega arith) in let d3 = e.depth (omega arith) in omega arith;
-      states = omega (arith, b.states, d.states, e.states);
-      commands = omega (arith, b.commands, d.commands, e.commands);
-    }
-
-zext_fits : {version : Version} {x : t.Expression} {w : ℕ} {s : Spot} {c1 c2 c3 c4 c5 c6 c7 : Counts} → RoleFact r.Inner c1 c2
-    → RoleFact r.Opening c2 c3 → Fits version 0 x c3 c4 → RoleFact r.Inner c4 c5 → is_number w ≡ true
-    → RoleFact r.Inner c5 c6 → RoleFact r.Closing c6 c7 → Fits version primary_precedence (t.zero_extend s x w) c1 c7
-unfolding is_expression precedence_of
-zext_fits {x} {w} {s} a b c d is e f =
-    let size = zext_tokens s x w in
-    let nest = zext_brackets s x w in
-    let bare = no_pars primary_precedence (t.zero_extend s x w) (omega arith) in
-    let shut = no_opens primary_precedence (t.zero_extend s x w) (omega arith) in
-    let a0 = a.0 in let a1 = a.1 in let b0 = b.0 in let b1 = b.1 in let b2 = b.2 in let d0 = d.0 in let d1 = d.1 in let e0 = e.0 in let e1 = e.1 in let f0 = f.0 in let f1 = f.1 in
-    let even = c.even in let s1 = c.size in
-    record {
-      is = all_true c.is is;
-      size = omega arith;
-      room = f0.room;
-      even = omega arith;
-      depth = λ h. let deep = c.depth (omega arith) in omega arith;
-      states = omega (arith, c.states);
-      commands = omega (arith, c.commands);
-    }
-
-no_parts_fit : {version : Version} (c : Counts) → FitsParts version t.no_part c c
-unfolding is_expression tokens brackets
-no_parts_fit c = record { are = refl; size = omega arith; room = λ h. h; even = refl; depth = λ h. omega arith; states = refl; commands = refl }
-
-part_tokens_are : (x : t.Expression) (xs : t.Expressions) → part_tokens (t.and_part x xs) ≡ tokens x + 1 + part_tokens xs
-unfolding tokens
-part_tokens_are x xs = refl
-
-part_brackets_are : (x : t.Expression) (xs : t.Expressions) → part_brackets (t.and_part x xs) ≡ max (brackets x) (part_brackets xs)
-unfolding brackets
-part_brackets_are x xs = refl
-
-part_fits : {version : Version} {x : t.Expression} {xs : t.Expressions} {c1 c2 c3 c4 : Counts} → RoleFact r.Inner c1 c2
-    → Fits version 0 x c2 c3 → FitsParts version xs c3 c4 → FitsParts version (t.and_part x xs) c1 c4
-unfolding is_expression
-part_fits {x} {xs} a b c =
-    let size = part_tokens_are x xs in
-    let nest = part_brackets_are x xs in
-    let a0 = a.0 in let a1 = a.1 in let e1 = b.even in let e2 = c.even in let s1 = b.size in let s2 = c.size in
-    record {
-      are = all_true b.is c.are;
-      size = omega arith;
-      room = λ h. c.room b.room;
-      even = omega arith;
-      depth = λ h. let d1 = b.depth (omega arith) in let d2 = c.depth (omega arith) in omega arith;
-      states = omega (arith, b.states, c.states);
-      commands = omega (arith, b.commands, c.commands);
-    }
-
-number_fits : {version : Version} {n : ℕ} {s : Spot} {c d : Counts} → is_number n ≡ true → RoleFact r.Inner c d → Fits version primary_precedence (t.literal s n) c d
-unfolding is_expression tokens brackets precedence_of
-number_fits {n} {s} is a = one_fits (t.literal s n) is refl refl refl a
-
-sized_fits : {version : Version} {w n : ℕ} {s : Spot} {c d : Counts} → is_number w ≡ true → is_number n ≡ true → RoleFact r.Inner c d
-    → Fits version primary_precedence (t.sized_literal s w n) c d
-unfolding is_expression tokens brackets precedence_of
-sized_fits {w} {n} {s} is other a = one_fits (t.sized_literal s w n) (all_true is other) refl refl refl a
-
-read_fits : {version : Version} {n : List ℕ} {s : Spot} {c d : Counts} → is_name version n ≡ true → RoleFact r.Inner c d → Fits version primary_precedence (t.variable s n) c d
-unfolding is_expression tokens brackets precedence_of
-read_fits {n} {s} is a = one_fits (t.variable s n) is refl refl refl a
-
-cuts_between : {version : Version} {p q : Stage} {x y : t.Expression} → g.Cuts x p y q → Between version p q (Grows version slice_precedence x y p.past.counts q.past.counts)
-cuts_between {p} {x = x} g.no_cut = still (grows_none slice_precedence x p.past.counts)
-cuts_between (g.cut b more) = gives (bounds_between b then cuts_between more) (λ f. cut_grows f.0 f.1)
+in_parentheses : {version : Version} {p q : Stage} (place : Place) (x : t.Expression) → Spans version p q (is_expression version x) (tokens x + 2) (brackets x + 1)
+    → Operand version primary_precedence p (enclosed place x) q
+in_parentheses place x s =
+    let e = enclosed_tokens place x in let f = enclosed_brackets place x in
+    let bare = pars_most primary_precedence (enclosed place x) in let shut = opens_most primary_precedence (enclosed place x) in
+    eases s (λ h. enclosed_is _ place x ∙ h) (omega arith) (omega arith)
 
 mutual
-  pub expr_between : {version : Version} {p q : Stage} {x : t.Expression} → g.Expr p x q → Between version p q (Fits version 0 x p.past.counts q.past.counts)
-  expr_between (g.only b) = gives (bin_between b) (lower 0 1 (omega arith))
+  unfolding is_expression precedence_of tokens brackets pars opens
+
+  pub expr_between : {version : Version} {p q : Stage} {x : t.Expression} → g.Expr p x q → Spans version p q (is_expression version x) (tokens x) (brackets x)
+  expr_between (g.only b) = eases (bin_between b) (λ h. h) (omega arith) (omega arith)
   expr_between (g.choice b s1 y s2 z) =
-      gives (bin_between b then (stands s1 then (expr_between y then (stands s2 then expr_between z)))) (λ f. choose_fits f.0 f.1.0.1 f.1.1.0 f.1.1.1.0.1 f.1.1.1.1)
+      eases (bin_between b and s1 before expr_between y and s2 before expr_between z) (λ h. h) (omega arith) (omega arith)
 
-  bin_between : {version : Version} {l : ℕ} {p q : Stage} {x : t.Expression} → g.Bin l p x q → Between version p q (Fits version l x p.past.counts q.past.counts)
+  bin_between : {version : Version} {l : ℕ} {p q : Stage} {x : t.Expression} → g.Bin l p x q → Operand version l p x q
   bin_between (g.operand u) = unary_between u
-  bin_between (g.chain {l = l} h b o) = gives (bin_between b then others_between o) (λ f. grown (lower l (l + 1) (omega arith) f.0) f.1)
+  bin_between (g.chain {l = l} h b o) = others_between o (lower l (l + 1) _ (omega arith) (bin_between b))
 
-  others_between : {version : Version} {l : ℕ} {p q : Stage} {x y : t.Expression} → g.Others l x p y q → Between version p q (Grows version l x y p.past.counts q.past.counts)
-  others_between {l} {p} {x = x} g.no_other = still (grows_none l x p.past.counts)
-  others_between (g.other o level s b more) = gives (stands s then (bin_between b then others_between more)) (λ f. other_grows o level f.0.1 f.1.0 f.1.1)
+  others_between : {version : Version} {l : ℕ} {o p q : Stage} {x y : t.Expression} → g.Others l x p y q → Operand version l o x p → Operand version l o y q
+  others_between g.no_other s = s
+  others_between {l} {p = p} {x = x} (g.other {y = y} o level a b more) s =
+      let e = ap (λ k. pars k x) level in let f = ap (λ k. pars (k + 1) y) level in
+      let e' = ap (λ k. opens k x) level in let f' = ap (λ k. opens (k + 1) y) level in
+      others_between more (whole l (t.binary_of (record { first = first_of x; at = here p }) o x y) (s and a before bin_between b) (λ h. h) (omega arith) (omega arith) (omega arith))
 
-  unary_between : {version : Version} {p q : Stage} {x : t.Expression} → g.Unary p x q → Between version p q (Fits version unary_precedence x p.past.counts q.past.counts)
-  unary_between (g.signed o s u) = gives (stands s then unary_between u) (λ f. unary_fits f.0.1 f.1)
-  unary_between (g.unsigned b) = gives (post_between b) (lower unary_precedence slice_precedence (omega arith))
+  unary_between : {version : Version} {p q : Stage} {x : t.Expression} → g.Unary p x q → Operand version unary_precedence p x q
+  unary_between {x = z} (g.signed o s u) = whole unary_precedence z (s before unary_between u) (λ h. h) (omega arith) (omega arith) (omega arith)
+  unary_between (g.unsigned b) = lower unary_precedence slice_precedence _ (omega arith) (post_between b)
 
-  post_between : {version : Version} {p q : Stage} {x : t.Expression} → g.Post p x q → Between version p q (Fits version slice_precedence x p.past.counts q.past.counts)
-  post_between (g.post b c) = gives (prim_between b then cuts_between c) (λ f. grown (lower slice_precedence primary_precedence (omega arith) f.0) f.1)
+  post_between : {version : Version} {p q : Stage} {x : t.Expression} → g.Post p x q → Operand version slice_precedence p x q
+  post_between (g.post b c) = cuts_between c (lower slice_precedence primary_precedence _ (omega arith) (prim_between b))
 
-  prim_between : {version : Version} {p q : Stage} {x : t.Expression} → g.Prim p x q → Between version p q (Fits version primary_precedence x p.past.counts q.past.counts)
-  prim_between (g.number a) = gives (stands a) (λ f. number_fits f.0 f.1)
-  prim_between (g.sized a) = gives (stands a) (λ f. sized_fits f.0.0 f.0.1 f.1)
-  prim_between (g.read a) = gives (stands a) (λ f. read_fits f.0 f.1)
-  prim_between (g.cell a b i c) = gives (stands a then (stands b then (expr_between i then stands c))) (λ f. cell_fits f.0.0 f.0.1 f.1.0.1 f.1.1.0 f.1.1.1.1)
-  prim_between (g.parentheses a x b) = gives (stands a then (expr_between x then stands b)) (λ f. enclosed_fits _ _ f.0.1 f.1.0 f.1.1.1)
-  prim_between (g.concat a x b y xs c) =
-      gives (stands a then (expr_between x then (stands b then (expr_between y then (parts_between xs then stands c)))))
-      (λ f. concat_fits f.0.1 f.1.0 f.1.1.0.1 f.1.1.1.0 f.1.1.1.1.0 f.1.1.1.1.1.1)
-  prim_between (g.zext a b x c n d) =
-      gives (stands a then (stands b then (expr_between x then (stands c then (stands n then stands d)))))
-      (λ f. zext_fits f.0.1 f.1.0.1 f.1.1.0 f.1.1.1.0.1 f.1.1.1.1.0.0 f.1.1.1.1.0.1 f.1.1.1.1.1.1)
+  prim_between : {version : Version} {p q : Stage} {x : t.Expression} → g.Prim p x q → Operand version primary_precedence p x q
+  prim_between {x = z} (g.number a) = whole primary_precedence z (token a) (λ h. h) (omega arith) (omega arith) (omega arith)
+  prim_between {x = z} (g.sized a) = whole primary_precedence z (token a) (λ h. h) (omega arith) (omega arith) (omega arith)
+  prim_between {x = z} (g.read a) = whole primary_precedence z (token a) (λ h. h) (omega arith) (omega arith) (omega arith)
+  prim_between {x = z} (g.cell a b i c) = whole primary_precedence z (token a and within b (expr_between i) c) (λ h. h) (omega arith) (omega arith) (omega arith)
+  prim_between (g.parentheses a x b) = in_parentheses _ _ (within a (expr_between x) b)
+  prim_between {x = z} (g.concat a x b y xs c) =
+      whole primary_precedence z (within a (expr_between x and b before (expr_between y and parts_between xs)) c) (λ h. h) (omega arith) (omega arith) (omega arith)
+  prim_between {x = z} (g.zext a b x c n d) =
+      whole primary_precedence z (a before within b (expr_between x and c before token n) d) (λ h. h) (omega arith) (omega arith) (omega arith)
 
-  parts_between : {version : Version} {p q : Stage} {xs : t.Expressions} → g.Parts p xs q → Between version p q (FitsParts version xs p.past.counts q.past.counts)
-  parts_between {p} g.no_part = still (no_parts_fit p.past.counts)
-  parts_between (g.part a x xs) = gives (stands a then (expr_between x then parts_between xs)) (λ f. part_fits f.0.1 f.1.0 f.1.1)
+  parts_between : {version : Version} {p q : Stage} {xs : t.Expressions} → g.Parts p xs q → Spans version p q (are_expressions version xs) (part_tokens xs) (part_brackets xs)
+  parts_between g.no_part = nothing
+  parts_between (g.part a x xs) = eases (a before (expr_between x and parts_between xs)) (λ h. h) (omega arith) (omega arith)
 
--- an expression that stands in no other
-pub outermost : {version : Version} {x : t.Expression} {c d : Counts} → c.tokens ≡ 0 → c.brackets ≡ 0 → Fits version 0 x c d → is_outermost version x ≡ true
-outermost {x} none closed f =
-    let size : tokens x ≤ 256 = let s = f.size in let r = f.room in omega arith in
-    let nest : brackets x ≤ 64 = let d = f.depth (omega arith) in omega arith in
-    all_true f.is (all_true (le_true size) (le_true nest))
+mutual
+  unfolding is_tag tag_tokens tag_brackets
+
+  pub texpr_between : {version : Version} {p q : Stage} {x : t.TagExpression} → g.Texpr p x q → Spans version p q (is_tag version x) (tag_tokens x) (tag_brackets x)
+  texpr_between (g.level a) = token a
+  texpr_between (g.tag_of a b x c) = eases (a before within b (expr_between x) c) (λ h. h) (omega arith) (omega arith)
+  texpr_between (g.level_at a b x c) = eases (a before within b (expr_between x) c) (λ h. h) (omega arith) (omega arith)
+  texpr_between (g.join a b x c y xs d) =
+      eases (a before within b (texpr_between x and c before (texpr_between y and texprs_between xs)) d) (λ h. h) (omega arith) (omega arith)
+
+  texprs_between : {version : Version} {p q : Stage} {xs : t.TagExpressions} → g.Texprs p xs q → Spans version p q (are_tags version xs) (tag_part_tokens xs) (tag_part_brackets xs)
+  texprs_between g.no_tag = nothing
+  texprs_between (g.tag a x xs) = eases (a before (texpr_between x and texprs_between xs)) (λ h. h) (omega arith) (omega arith)
+
+-- an expression or tag expression that stands in no other
+pub outermost : {a : Bool} {n l : ℕ} {c d : Counts} → c.tokens ≡ 0 → c.brackets ≡ 0 → Fits a n l c d → (a && (nat_le n 256 && nat_le l 64)) ≡ true
+outermost {n = n} {l = l} none closed f =
+    let few : n ≤ 256 = let s = f.size in let r = f.room (omega arith) in omega arith in
+    let near : l ≤ 64 = let d = f.depth (omega arith) in omega arith in
+    all_true f.test (all_true (le_true few) (le_true near))

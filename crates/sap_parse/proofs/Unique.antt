@@ -1,5 +1,5 @@
 -- Tokens have at most one tree: expressions.
-use Rattle.std.proofs.Common.{◌≡◌, ◌≢◌, ◌+◌, ℕ, List, [], ◌∷◌, Option, Some, Ok, Bool, true, false, refl, sym, ap, subst, ◌∙◌, arith}
+use Rattle.std.proofs.Common.{◌≡◌, ◌≢◌, ◌+◌, ℕ, List, ◌∷◌, Option, Some, Ok, Bool, true, false, refl, sym, ap, subst, ◌∙◌, arith}
 use Rattle.sap_tree.proofs.SyntaxLemmas.{and_part}
 use Rattle.sap_parse.proofs.ReadingLemmas.{ok_one}
 use Rattle.sap_parse.specs.Grammar as g
