@@ -1,6 +1,6 @@
 -- How many sites and points a design has, by its commands.
 use Rattle.sap_lemmas.proofs.Common.{ℕ, ◌+◌, ◌*◌, ◌^◌, ◌<◌, ◌≤◌, List, ◌++◌, Bool, ◌&&◌, length, length-append, map, arith, length-map, common_steps, IsTrue, count_by, nat_le}
-use Rattle.sap_tree.specs.Prelude.{SimpleCommand, assign, write, set_tag, set_cell_tag, go_to, fall_to_child, Command, lone, try, if_else, try_then, case_of, Arms, last_arm, and_arm, CommandBlock, command_block, ElseBlock, no_else, with_else, CommandList, no_command, and_command, StateTree, state_node, StateList, no_state, and_state, DesignTree, Point, point, simple_points, command_points, block_points, else_points, arms_points, list_points, state_points, states_points, home_of, command_count, block_count, else_count, arms_count, list_count, state_commands, states_commands, states_count, states_depth, is_whole, is_tree, is_input, is_register, is_memory}
+use Rattle.sap_tree.specs.Prelude.{SimpleCommand, assign, Command, lone, try, if_else, try_then, case_of, Arms, last_arm, and_arm, CommandBlock, command_block, ElseBlock, no_else, with_else, CommandList, no_command, and_command, StateTree, state_node, StateList, no_state, and_state, DesignTree, Point, point, simple_points, command_points, block_points, else_points, arms_points, list_points, state_points, states_points, home_of, command_count, block_count, else_count, arms_count, list_count, state_commands, states_commands, states_count, states_depth, is_whole, is_tree, is_input, is_register, is_memory}
 use Rattle.sap_tree.specs.Points as tree
 use Rattle.sap_names.specs.Entities.{entities_of}
 use Rattle.sap_shape.specs.Sites.{check_sites}
@@ -13,11 +13,7 @@ both_points a b m n h k = rw length-append (omega arith)
 
 simple_points-few : (k : SimpleCommand) → length (simple_points k) ≤ 1
 simple_points-few (assign target e) = omega arith
-simple_points-few (write target index e) = omega arith
-simple_points-few (set_tag place target tag) = omega arith
-simple_points-few (set_cell_tag place target index tag) = omega arith
-simple_points-few (go_to place target) = omega arith
-simple_points-few (fall_to_child place) = omega arith
+simple_points-few _ = omega arith
 
 mutual
   unfolding command_count block_count else_count arms_count list_count

@@ -32,19 +32,7 @@ code_of n =
 code_of-number : (c : Code) → code_of (number c) ≡ c
 unfolding code_of
 code_of-number E3 = refl
-code_of-number E4 = refl
-code_of-number E5 = refl
-code_of-number E6 = refl
-code_of-number E7 = refl
-code_of-number E8 = refl
-code_of-number E9 = refl
-code_of-number E10 = refl
-code_of-number E11 = refl
-code_of-number E12 = refl
-code_of-number E14 = refl
-code_of-number E15 = refl
-code_of-number E16 = refl
-code_of-number E17 = refl
+code_of-number _ = refl
 
 same_code : (c k : Code) → number c ≡ number k → c ≡ k
 same_code c k e = sym (code_of-number c) ∙ ap code_of e ∙ code_of-number k

@@ -1,5 +1,5 @@
 -- The points of lists of commands and of states, from a place on.
-use Rattle.sap_lemmas.proofs.Common.{◌≡◌, ℕ, zero, suc, ◌+◌, ◌<◌, ◌≤◌, List, [], ◌∷◌, ◌++◌, length, get_or, drop, map, refl, sym, ap, ◌∙◌, arith, add-one, append_assoc, Some, append-nil, map-append, map-map}
+use Rattle.sap_lemmas.proofs.Common.{◌≡◌, ℕ, zero, suc, ◌+◌, ◌<◌, ◌≤◌, List, [], ◌∷◌, ◌++◌, length, get_or, drop, map, refl, sym, ap, ◌∙◌, arith, add-one, at_drop_all, at_drop_more, append_assoc, Some, append-nil, map-append, map-map}
 use Rattle.sap_tree.specs.Prelude.{tree_of, simple_points, command_points, block_points, else_points, state_points, Expression, SimpleCommand, Command, if_else, try_then, case_of, ElseBlock, StateTree, Home, command_of, commands_of, block_of, arm_block_of, arms_of, else_of, state_of, states_of}
 use Rattle.sap_tree.specs.declared.syntax.Block.{Block}
 use Rattle.sap_tree.specs.declared.syntax.Arm.{Arm}
@@ -11,14 +11,10 @@ use Rattle.sap_text.specs.declared.place.Place.{Place}
 use Rattle.sap_tree.specs.Points as points
 use Rattle.sap_check.specs.declared.point.PointKind.TheVariants as kind
 use Rattle.sap_tree.proofs.Views.{state_of-out}
+use Rattle.sap_check.proofs.SiteLists.{after_part}
 use Rattle.sap_check.specs.declared.point.Point.{Point}
 use Rattle.sap_check.specs.Points.{point, word_of, words_of, words_at, points_of}
 use Rattle.sap_check.specs.Lists.{list_points, arms_points, group_points}
-
--- one part, and those behind it
-after_part : (old new part rest all : List Point) → new ≡ old ++ part → all ≡ part ++ rest → new ++ rest ≡ old ++ all
-after_part old new part rest all h e =
-    ap (λ (l : List Point). l ++ rest) h ∙ append_assoc old part rest ∙ ap (λ (l : List Point). old ++ l) (sym e)
 
 words-both : (a b : List Command) → words_of (a ++ b) ≡ words_of a ++ words_of b
 words-both a b = map-append word_of a b
@@ -29,17 +25,13 @@ at-both a b = map-append (λ (p : points.Point). word_of p.command) a b
 list_points-drop : (cs : List Cmd) (n : ℕ) (d : Cmd) → n < length cs → d ≡ get_or cs n d
     → list_points (drop n cs) ≡ words_of (command_points (command_of d)) ++ list_points (drop (n + 1) cs)
 unfolding list_points
-list_points-drop [] n d l e = absurd (omega arith)
-list_points-drop (c ∷ cs) zero d l e =
-    words-both (command_points (command_of c)) (points.list_points (commands_of cs)) ∙ ap (λ (x : Cmd). words_of (command_points (command_of x)) ++ list_points cs) (sym e)
-list_points-drop (c ∷ cs) (suc n) d l e = let r = list_points-drop cs n d (omega arith) e in simp (add-one) (simp (add-one) at r)
+list_points-drop cs n d l e =
+    at_drop_more list_points cs n d l ∙ ap (λ (x : Cmd). list_points (x ∷ drop (n + 1) cs)) (sym e)
+    ∙ words-both (command_points (command_of d)) (points.list_points (commands_of (drop (n + 1) cs)))
 
 pub list_points-past : (cs : List Cmd) (n : ℕ) → length cs ≤ n → list_points (drop n cs) ≡ []
 unfolding list_points
-list_points-past [] zero l = refl
-list_points-past [] (suc n) l = refl
-list_points-past (c ∷ cs) zero l = absurd (omega arith)
-list_points-past (c ∷ cs) (suc n) l = list_points-past cs n (omega arith)
+list_points-past cs n l = at_drop_all list_points cs n l
 
 pub points_step : (cs : List Cmd) (n : ℕ) (d : Cmd) (old new : List Point) → n < length cs → d ≡ get_or cs n d → new ≡ old ++ words_of (command_points (command_of d))
     → new ++ list_points (drop (n + 1) cs) ≡ old ++ list_points (drop n cs)
@@ -58,17 +50,13 @@ else_points-is b = refl
 arms_points-drop : (arms : List Arm) (n : ℕ) (d : Arm) (cs : List Cmd) → n < length arms → d ≡ get_or arms n d → cs ≡ d.block.commands.items
     → arms_points (drop n arms) ≡ list_points cs ++ arms_points (drop (n + 1) arms)
 unfolding arms_points list_points
-arms_points-drop [] n d cs l e f = absurd (omega arith)
-arms_points-drop (arm ∷ arms) zero d cs l e f =
-    ap (λ (a : Arm). words_of (block_points (arm_block_of a)) ++ arms_points arms) (sym e) ∙ ap (λ (k : List Cmd). list_points k ++ arms_points arms) (sym f)
-arms_points-drop (arm ∷ arms) (suc n) d cs l e f = let r = arms_points-drop arms n d cs (omega arith) e f in simp (add-one) (simp (add-one) at r)
+arms_points-drop arms n d cs l e f =
+    at_drop_more arms_points arms n d l ∙ ap (λ (a : Arm). words_of (block_points (arm_block_of a)) ++ arms_points (drop (n + 1) arms)) (sym e)
+    ∙ ap (λ (k : List Cmd). list_points k ++ arms_points (drop (n + 1) arms)) (sym f)
 
 pub arms_points-past : (arms : List Arm) (n : ℕ) → length arms ≤ n → arms_points (drop n arms) ≡ []
 unfolding arms_points
-arms_points-past [] zero l = refl
-arms_points-past [] (suc n) l = refl
-arms_points-past (arm ∷ arms) zero l = absurd (omega arith)
-arms_points-past (arm ∷ arms) (suc n) l = arms_points-past arms n (omega arith)
+arms_points-past arms n l = at_drop_all arms_points arms n l
 
 pub arms_step : (arms : List Arm) (n : ℕ) (d : Arm) (cs : List Cmd) (old new : List Point) → n < length arms → d ≡ get_or arms n d
     → cs ≡ d.block.commands.items → new ≡ old ++ list_points cs
@@ -86,17 +74,13 @@ arms_points-of (arm ∷ arms) last =
 group_points-drop : (ss : List State) (n : ℕ) (d : State) → n < length ss → d ≡ get_or ss n d
     → group_points (drop n ss) ≡ words_at (state_points (state_of d)) ++ group_points (drop (n + 1) ss)
 unfolding group_points
-group_points-drop [] n d l e = absurd (omega arith)
-group_points-drop (s ∷ ss) zero d l e =
-    at-both (state_points (state_of s)) (points.states_points (states_of ss)) ∙ ap (λ (x : State). words_at (state_points (state_of x)) ++ group_points ss) (sym e)
-group_points-drop (s ∷ ss) (suc n) d l e = let r = group_points-drop ss n d (omega arith) e in simp (add-one) (simp (add-one) at r)
+group_points-drop ss n d l e =
+    at_drop_more group_points ss n d l ∙ ap (λ (x : State). group_points (x ∷ drop (n + 1) ss)) (sym e)
+    ∙ at-both (state_points (state_of d)) (points.states_points (states_of (drop (n + 1) ss)))
 
 pub group_points-past : (ss : List State) (n : ℕ) → length ss ≤ n → group_points (drop n ss) ≡ []
 unfolding group_points
-group_points-past [] zero l = refl
-group_points-past [] (suc n) l = refl
-group_points-past (s ∷ ss) zero l = absurd (omega arith)
-group_points-past (s ∷ ss) (suc n) l = group_points-past ss n (omega arith)
+group_points-past ss n l = at_drop_all group_points ss n l
 
 pub states_step : (ss : List State) (n : ℕ) (d : State) (old new : List Point) → n < length ss → d ≡ get_or ss n d → new ≡ old ++ words_at (state_points (state_of d))
     → new ++ group_points (drop (n + 1) ss) ≡ old ++ group_points (drop n ss)

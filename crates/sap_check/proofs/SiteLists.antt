@@ -1,5 +1,5 @@
 -- The sites of lists of commands and of states, from a place on.
-use Rattle.sap_lemmas.proofs.Common.{◌≡◌, ℕ, zero, suc, ◌+◌, ◌<◌, ◌≤◌, List, [], ◌∷◌, ◌++◌, length, get_or, drop, refl, sym, ap, ◌∙◌, arith, add-one, append_assoc, Some, map, map-append, append-nil}
+use Rattle.sap_lemmas.proofs.Common.{◌≡◌, ℕ, zero, suc, ◌+◌, ◌<◌, ◌≤◌, List, [], ◌∷◌, ◌++◌, length, get_or, drop, refl, sym, ap, ◌∙◌, arith, add-one, at_drop_all, at_drop_more, append_assoc, Some, map, map-append, append-nil}
 use Rattle.sap_tree.specs.Prelude.{tree_of, StateTree, command_of, commands_of, block_of, arm_block_of, arms_of, else_of, state_of, states_of}
 use Rattle.sap_tree.specs.declared.syntax.Block.{Block}
 use Rattle.sap_tree.specs.declared.syntax.Arm.{Arm}
@@ -18,26 +18,20 @@ use Rattle.sap_check.specs.Sites.{site_of, sites_of}
 use Rattle.sap_check.specs.Lists.{list_sites, arms_sites, group_sites}
 
 -- one part, and those behind it
-pub after_part : (old new part rest all : List Site) → new ≡ old ++ part → all ≡ part ++ rest → new ++ rest ≡ old ++ all
-after_part old new part rest all h e =
-    ap (λ (l : List Site). l ++ rest) h ∙ append_assoc old part rest ∙ ap (λ (l : List Site). old ++ l) (sym e)
+pub after_part : {A : Type 0} (old new part rest all : List A) → new ≡ old ++ part → all ≡ part ++ rest → new ++ rest ≡ old ++ all
+after_part old new part rest all h e = ap (λ l. l ++ rest) h ∙ append_assoc old part rest ∙ ap (λ l. old ++ l) (sym e)
 
 module _ (h : Surroundings) where
   list_sites-drop : (cs : List Cmd) (n : ℕ) (d : Cmd) → n < length cs → d ≡ get_or cs n d
       → list_sites h (drop n cs) ≡ map site_of (command_sites h (command_of d)) ++ list_sites h (drop (n + 1) cs)
   unfolding list_sites
-  list_sites-drop [] n d l e = absurd (omega arith)
-  list_sites-drop (c ∷ cs) zero d l e =
-      map-append site_of (command_sites h (command_of c)) (sites.list_sites h (commands_of cs))
-      ∙ ap (λ (x : Cmd). map site_of (command_sites h (command_of x)) ++ list_sites h cs) (sym e)
-  list_sites-drop (c ∷ cs) (suc n) d l e = let r = list_sites-drop cs n d (omega arith) e in simp (add-one) (simp (add-one) at r)
+  list_sites-drop cs n d l e =
+      at_drop_more (list_sites h) cs n d l ∙ ap (λ (x : Cmd). list_sites h (x ∷ drop (n + 1) cs)) (sym e)
+      ∙ map-append site_of (command_sites h (command_of d)) (sites.list_sites h (commands_of (drop (n + 1) cs)))
 
   pub list_sites-past : (cs : List Cmd) (n : ℕ) → length cs ≤ n → list_sites h (drop n cs) ≡ []
   unfolding list_sites
-  list_sites-past [] zero l = refl
-  list_sites-past [] (suc n) l = refl
-  list_sites-past (c ∷ cs) zero l = absurd (omega arith)
-  list_sites-past (c ∷ cs) (suc n) l = list_sites-past cs n (omega arith)
+  list_sites-past cs n l = at_drop_all (list_sites h) cs n l
 
   pub sites_step : (cs : List Cmd) (n : ℕ) (d : Cmd) (old new : List Site) → n < length cs → d ≡ get_or cs n d → new ≡ old ++ map site_of (command_sites h (command_of d))
       → new ++ list_sites h (drop (n + 1) cs) ≡ old ++ list_sites h (drop n cs)
@@ -46,19 +40,14 @@ module _ (h : Surroundings) where
   arms_sites-drop : (arms : List Arm) (n : ℕ) (d : Arm) (cs : List Cmd) → n < length arms → d ≡ get_or arms n d → cs ≡ d.block.commands.items
       → arms_sites h (drop n arms) ≡ list_sites h cs ++ arms_sites h (drop (n + 1) arms)
   unfolding arms_sites list_sites shape_lists.arms_sites
-  arms_sites-drop [] n d cs l e f = absurd (omega arith)
-  arms_sites-drop (arm ∷ arms) zero d cs l e f =
-      map-append site_of (block_sites h (arm_block_of arm)) (shape_lists.arms_sites h arms)
-      ∙ ap (λ (a : Arm). map site_of (block_sites h (arm_block_of a)) ++ arms_sites h arms) (sym e)
-      ∙ ap (λ (k : List Cmd). list_sites h k ++ arms_sites h arms) (sym f)
-  arms_sites-drop (arm ∷ arms) (suc n) d cs l e f = let r = arms_sites-drop arms n d cs (omega arith) e f in simp (add-one) (simp (add-one) at r)
+  arms_sites-drop arms n d cs l e f =
+      at_drop_more (arms_sites h) arms n d l ∙ ap (λ (a : Arm). arms_sites h (a ∷ drop (n + 1) arms)) (sym e)
+      ∙ map-append site_of (block_sites h (arm_block_of d)) (shape_lists.arms_sites h (drop (n + 1) arms))
+      ∙ ap (λ (k : List Cmd). list_sites h k ++ arms_sites h (drop (n + 1) arms)) (sym f)
 
   pub arms_sites-past : (arms : List Arm) (n : ℕ) → length arms ≤ n → arms_sites h (drop n arms) ≡ []
   unfolding arms_sites shape_lists.arms_sites
-  arms_sites-past [] zero l = refl
-  arms_sites-past [] (suc n) l = refl
-  arms_sites-past (arm ∷ arms) zero l = absurd (omega arith)
-  arms_sites-past (arm ∷ arms) (suc n) l = arms_sites-past arms n (omega arith)
+  arms_sites-past arms n l = at_drop_all (arms_sites h) arms n l
 
   pub arms_step : (arms : List Arm) (n : ℕ) (d : Arm) (cs : List Cmd) (old new : List Site) → n < length arms → d ≡ get_or arms n d
       → cs ≡ d.block.commands.items → new ≡ old ++ list_sites h cs
@@ -88,18 +77,13 @@ module _ (es : List Entity) where
   group_sites-drop : (ss : List State) (n : ℕ) (d : State) → n < length ss → d ≡ get_or ss n d
       → group_sites es (drop n ss) ≡ map site_of (state_sites es (state_of d)) ++ group_sites es (drop (n + 1) ss)
   unfolding group_sites
-  group_sites-drop [] n d l e = absurd (omega arith)
-  group_sites-drop (s ∷ ss) zero d l e =
-      map-append site_of (state_sites es (state_of s)) (sites.states_sites es (states_of ss))
-      ∙ ap (λ (x : State). map site_of (state_sites es (state_of x)) ++ group_sites es ss) (sym e)
-  group_sites-drop (s ∷ ss) (suc n) d l e = let r = group_sites-drop ss n d (omega arith) e in simp (add-one) (simp (add-one) at r)
+  group_sites-drop ss n d l e =
+      at_drop_more (group_sites es) ss n d l ∙ ap (λ (x : State). group_sites es (x ∷ drop (n + 1) ss)) (sym e)
+      ∙ map-append site_of (state_sites es (state_of d)) (sites.states_sites es (states_of (drop (n + 1) ss)))
 
   pub group_sites-past : (ss : List State) (n : ℕ) → length ss ≤ n → group_sites es (drop n ss) ≡ []
   unfolding group_sites
-  group_sites-past [] zero l = refl
-  group_sites-past [] (suc n) l = refl
-  group_sites-past (s ∷ ss) zero l = absurd (omega arith)
-  group_sites-past (s ∷ ss) (suc n) l = group_sites-past ss n (omega arith)
+  group_sites-past ss n l = at_drop_all (group_sites es) ss n l
 
   pub states_step : (ss : List State) (n : ℕ) (d : State) (old new : List Site) → n < length ss → d ≡ get_or ss n d → new ≡ old ++ map site_of (state_sites es (state_of d))
       → new ++ group_sites es (drop (n + 1) ss) ≡ old ++ group_sites es (drop n ss)
