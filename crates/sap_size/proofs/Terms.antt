@@ -21,10 +21,7 @@ one_is _ _ h = absurd (cc)
 
 one_self : (o : Op1) → same_one o o ≡ true
 one_self Not = refl
-one_self Neg = refl
-one_self AllOnes = refl
-one_self AnyOne = refl
-one_self Odd = refl
+one_self _ = refl
 
 two_is : (o p : Op2) → same_two o p ≡ true → o ≡ p
 two_is Add Add h = refl
@@ -43,17 +40,7 @@ two_is _ _ h = absurd (cc)
 
 two_self : (o : Op2) → same_two o o ≡ true
 two_self Add = refl
-two_self Sub = refl
-two_self Mul = refl
-two_self And = refl
-two_self Or = refl
-two_self Xor = refl
-two_self Eq = refl
-two_self Ne = refl
-two_self Lt = refl
-two_self Le = refl
-two_self Shl = refl
-two_self Shr = refl
+two_self _ = refl
 
 pub term_is : (t u : Term Name) → same_term t u ≡ true → t ≡ u
 term_is (constant w x) (constant v y) h =
