@@ -35,12 +35,7 @@ costs (w ∷ ws) = cost w.right + costs ws
 
 cost_most : (r : Right) → cost r ≤ 1
 cost_most (Copy a) = omega arith
-cost_most (One op a) = omega arith
-cost_most (Two op a b) = omega arith
-cost_most (Choose c a b) = omega arith
-cost_most (Concat os) = omega arith
-cost_most (Slice x hi lo) = omega arith
-cost_most (Cell m i) = omega arith
+cost_most _ = omega arith
 
 cost_calculated : (w : Wire) (r : Right) (ws : List Wire) → w.right ≡ r → length (calculated (w ∷ ws)) ≡ cost r + length (calculated ws)
 cost_calculated w (Copy a) ws e = rw e (omega arith)
@@ -56,22 +51,14 @@ costs_are [] = refl
 costs_are (w ∷ ws) = let e = cost_calculated w w.right ws refl in let r = costs_are ws in omega (arith, e, r)
 
 cost_replaced : (e : Stands) (r : Right) → cost (replaced e r) ≤ cost r
-cost_replaced e (Copy a) = omega arith
-cost_replaced e (One op a) = omega arith
-cost_replaced e (Two op a b) = omega arith
-cost_replaced e (Choose c a b) = omega arith
-cost_replaced e (Concat os) = omega arith
 cost_replaced e (Slice x hi lo) = cost_most (sliced (standing e x) hi lo)
-cost_replaced e (Cell m i) = omega arith
+cost_replaced e _ = omega arith
 
 cost_settled : (w : ℕ) (r : Right) → cost (settled w r) ≤ cost r
-cost_settled w (Copy a) = omega arith
 cost_settled w (One op a) = cost_most (settled w (One op a))
 cost_settled w (Two op a b) = cost_most (settled w (Two op a b))
 cost_settled w (Choose c a b) = cost_most (settled w (Choose c a b))
-cost_settled w (Concat os) = omega arith
-cost_settled w (Slice x hi lo) = omega arith
-cost_settled w (Cell m i) = omega arith
+cost_settled w _ = omega arith
 
 adds_one : (taken : Name → Bool) (ws : List Wire) (next u : ℕ) (r : Right) (n : Name) (after : List Wire) (next_after : ℕ)
     → Adds taken ws next u r n after next_after → length after ≤ length ws + 1

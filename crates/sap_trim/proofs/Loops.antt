@@ -1,5 +1,5 @@
 -- Steps of loops over the parts of a netlist.
-use Rattle.sap_lemmas.proofs.Common.{◌≡◌, ℕ, ◌-◌, ◌<◌, ◌||◌, List, [], ◌∷◌, ◌++◌, map, drop, length, Option, Bool, false, sym, ap, ap₂, ◌∙◌, subst, refl, inl, inr, suc, ◌≤◌, get_or, arith, ◌⊎◌, bytes_eq, cases_Bool, or_false, equal_of_bytes_eq}
+use Rattle.sap_lemmas.proofs.Common.{◌≡◌, ℕ, ◌-◌, ◌<◌, ◌||◌, List, [], ◌∷◌, ◌++◌, map, drop, length, Option, Bool, false, sym, ap, ap₂, ◌∙◌, subst, refl, inl, inr, suc, ◌≤◌, get_or, arith, ◌⊎◌, bytes_eq, cases_Bool, or_false, equal_of_bytes_eq, take_more, take, ◌+◌}
 use Rattle.std.proofs.Common.{drop-cons}
 use Rattle.sap_maps.specs.Maps.{Name}
 use Rattle.sap_net.specs.Prelude.{is_among, Net, Puts}
@@ -34,9 +34,14 @@ lasting_held n net ps rs ms s0 s1 s2 s3 e p r m a b c =
 
 -- one more wire walked
 
-pub walked_push : (Step : State → Wire → State → Type 0) (ws : List Wire) (s t u : State) (w : Wire) → Walked Step s ws t → Step t w u → Walked Step s (ws ++ w ∷ []) u
+walked_push : (Step : State → Wire → State → Type 0) (ws : List Wire) (s t u : State) (w : Wire) → Walked Step s ws t → Step t w u → Walked Step s (ws ++ w ∷ []) u
 walked_push Step [] s t u w e k = (u, subst (λ (z : State). Step z w u) (sym e) k, refl)
 walked_push Step (x ∷ ws) s t u w e k = (e.0, e.1, walked_push Step ws e.0 t u w e.2 k)
+
+pub walked_more : (Step : State → Wire → State → Type 0) (ws : List Wire) (k : ℕ) (w : Wire) (s t u : State) → k < length ws → w ≡ get_or ws k w
+    → Walked Step s (take k ws) t → Step t w u → Walked Step s (take (k + 1) ws) u
+walked_more Step ws k w s t u l e f g =
+    subst (λ (zs : List Wire). Walked Step s zs u) (sym (take_more ws k w l ∙ ap (λ z. take k ws ++ z ∷ []) (sym e))) (walked_push Step (take k ws) s t u w f g)
 
 pub walked_both : (Step : State → Wire → State → Type 0) (ws xs : List Wire) (s t u : State) → Walked Step s ws t → Walked Step t xs u → Walked Step s (ws ++ xs) u
 walked_both Step [] xs s t u e k = subst (λ (z : State). Walked Step z xs u) (sym e) k

@@ -1,5 +1,5 @@
 -- Marks at the places of names, and the wires that have one.
-use Rattle.sap_lemmas.proofs.Common.{◌≡◌, ℕ, zero, suc, ◌+◌, ◌-◌, ◌<◌, ◌≤◌, ◌==◌, ◌||◌, Bool, true, false, List, [], ◌∷◌, ◌++◌, length, map, take, drop, replicate, get_or, set, Option, Some, None, sym, ap, ap₂, ◌∙◌, subst, refl, arith, inl, inr, append_assoc, if◌then◌else◌, option_map, bytes_eq, cases_Bool, or_parts, Decides-eqb, take-append_seam, length-map, length-replicate, drop_all, append-nil, or_false, bytes_eq_apart_back, equal_of_bytes_eq}
+use Rattle.sap_lemmas.proofs.Common.{◌≡◌, ℕ, zero, suc, ◌+◌, ◌-◌, ◌<◌, ◌≤◌, ◌==◌, ◌||◌, Bool, true, false, List, [], ◌∷◌, ◌++◌, length, map, take, drop, replicate, get_or, set, Option, Some, None, sym, ap, ap₂, ◌∙◌, subst, refl, arith, inl, inr, append_assoc, if◌then◌else◌, option_map, bytes_eq, cases_Bool, or_parts, Decides-eqb, take-append_seam, length-map, length-replicate, drop_all, append-nil, or_false, bytes_eq_apart_back, equal_of_bytes_eq, map-append, flat_map-append, flat_map, take_more}
 use Rattle.std.proofs.lemmas.List.{length-set}
 use Rattle.sap_maps.specs.Maps.{Name}
 use Rattle.sap_net.specs.Prelude.{is_among, AreDistinct, place_in, names_of, Net}
@@ -22,9 +22,7 @@ or_together false b c = refl
 
 or_behind : (a b c : Bool) → (b || (a || c)) ≡ ((a || b) || c)
 or_behind true true c = refl
-or_behind true false c = refl
-or_behind false true c = refl
-or_behind false false c = refl
+or_behind _ _ c = refl
 
 has_append : (m : List Name) (xs ys : List Name) (k : ℕ) → has_place m (xs ++ ys) k ≡ (has_place m xs k || has_place m ys k)
 has_append m [] ys k = refl
@@ -120,8 +118,7 @@ named_at (x ∷ ws) (suc k) w l e = named_at ws k w (omega (arith, l)) e
 
 or_front : (a b c : Bool) → (a || (b || c)) ≡ (b || (a || c))
 or_front true true c = refl
-or_front true false c = refl
-or_front false b c = refl
+or_front _ _ c = refl
 
 pub is_needed_at : (m : List Name) (P E : List Name) (ws ks : List Wire) (k : ℕ) (w : Wire) → m ≡ names_of ws → AreDistinct (names_of ws)
     → k < length (names_of ws) → w ≡ get_or ws k w → k < length ws → has_place m (wire_reads ks ++ (P ++ E)) k ≡ is_needed P E w ks
@@ -180,9 +177,8 @@ pub record Keeping (m : List Name) (P E : List Name) (ws : List Wire) (r : ℕ) 
   pub keeps : marked (drop r kept) (drop r ws) ≡ needed P E (drop r ws)
 
 unset : (n k : ℕ) → get_or (replicate n false) k false ≡ false
-unset zero k = refl
-unset (suc n) zero = refl
 unset (suc n) (suc k) = unset n k
+unset _ _ = refl
 
 pub first_keeping : (m : List Name) (P E : List Name) (ws : List Wire) (bs read kept : List Bool) → bs ≡ replicate (length ws) false
     → Marks m (P ++ E) bs read → kept ≡ replicate (length ws) false → Keeping m P E ws (length ws) read kept
@@ -281,21 +277,26 @@ ends_marked m n ps rs ms a b c d p r q f g h =
 
 -- what one more part reads
 
+pub marks_more : {A : Type 0} (reads : List A → List Name) (own : A → List Name) → ((xs : List A) (x : A) → reads (xs ++ x ∷ []) ≡ reads xs ++ own x)
+    → (m : List Name) (xs : List A) (k : ℕ) (x : A) (a b c : List Bool) → k < length xs → x ≡ get_or xs k x
+    → Marks m (reads (take k xs)) a b → Marks m (own x) b c → Marks m (reads (take (k + 1) xs)) a c
+marks_more reads own push m xs k x a b c l e f g =
+    let taken : take (k + 1) xs ≡ take k xs ++ x ∷ [] = take_more xs k x l ∙ ap (λ y. take k xs ++ y ∷ []) (sym e) in
+    subst (λ (ns : List Name). Marks m ns a c) (sym (ap reads taken ∙ push (take k xs) x)) (marks_both m (reads (take k xs)) (own x) a b c f g)
+
 pub ports_push : (ps : List Port) (p : Port) → map (λ x. x.name) (ps ++ p ∷ []) ≡ map (λ x. x.name) ps ++ p.name ∷ []
-ports_push [] p = refl
-ports_push (x ∷ ps) p = ap (λ (ns : List Name). x.name ∷ ns) (ports_push ps p)
+ports_push ps p = map-append (λ (x : Port). x.name) ps (p ∷ [])
+
+reads_push : {A : Type 0} (own : A → List Name) (xs : List A) (x : A) → flat_map own (xs ++ x ∷ []) ≡ flat_map own xs ++ own x
+reads_push own xs x = flat_map-append own xs (x ∷ []) ∙ ap (λ (ns : List Name). flat_map own xs ++ ns) (append-nil (own x))
 
 pub operands_push : (os : List Operand) (o : Operand) → operands_reads (os ++ o ∷ []) ≡ operands_reads os ++ operand_reads o
-operands_push [] o = append-nil (operand_reads o)
-operands_push (x ∷ os) o =
-    ap (λ (ns : List Name). operand_reads x ++ ns) (operands_push os o) ∙ sym (append_assoc (operand_reads x) (operands_reads os) (operand_reads o))
+operands_push os o = reads_push operand_reads os o
 
 pub edges_push : (rs : List Register) (r : Register) → register_reads (rs ++ r ∷ []) ≡ register_reads rs ++ operand_reads r.next
-edges_push [] r = append-nil (operand_reads r.next)
-edges_push (x ∷ rs) r =
-    ap (λ (ns : List Name). operand_reads x.next ++ ns) (edges_push rs r) ∙ sym (append_assoc (operand_reads x.next) (register_reads rs) (operand_reads r.next))
+edges_push rs r = reads_push (λ (x : Register). operand_reads x.next) rs r
 
-abbrev writes : Memory → List Name
+abbrev pub writes : Memory → List Name
 writes m = operand_reads m.enable ++ (operand_reads m.index ++ operand_reads m.value)
 
 pub writes_push : (ms : List Memory) (m : Memory) → memory_reads (ms ++ m ∷ []) ≡ memory_reads ms ++ (operand_reads m.enable ++ (operand_reads m.index ++ operand_reads m.value))

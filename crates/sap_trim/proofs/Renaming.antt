@@ -168,12 +168,7 @@ step_renames taken ms so sc w ahead s t free k a z calculated differs step =
 
 copy_settled : (e : Stands) (u : ℕ) (r : Right) → is_copy r ≡ true → settled u (replaced e r) ≡ replaced e r
 copy_settled e u (Copy a) h = refl
-copy_settled e u (One op a) h = absurd (cc)
-copy_settled e u (Two op a b) h = absurd (cc)
-copy_settled e u (Choose c a b) h = absurd (cc)
-copy_settled e u (Concat os) h = absurd (cc)
-copy_settled e u (Slice x hi lo) h = absurd (cc)
-copy_settled e u (Cell m i) h = absurd (cc)
+copy_settled e u _ h = absurd (cc)
 
 copies_copy : (taken : Name → Bool) (ws : List Wire) (s t : State) → AllByRecursion (λ w. is_copy w.right ≡ true) ws → Walked (Settles taken) s ws t → Walked (Copies taken) s ws t
 copies_copy taken [] s t a k = k
