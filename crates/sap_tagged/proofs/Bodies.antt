@@ -12,12 +12,12 @@ use Rattle.sap_resolved.specs.Sized.Ranges.{IsWidth, RangedStep, Ranged, RangedA
 use Rattle.sap_net.specs.Names.{is_among}
 use Rattle.sap_ir.specs.Prelude.{Source, readable, shapes, assignable, Body, stop, act, cases, goto, fall, BodyFine, follow}
 use Rattle.sap_ir.proofs.plain.SeatWidths.{seat_positive, seat_within, seat_holds}
-use Rattle.sap_tagged.specs.Prelude.{Key, value_key, tag_key, refused_key, level_key, wire_key, first_key, inner_key, sort, Setting, var, bits, lub, yes, expr, tag_of, guard_of, test_of, written, stays, always, all_dynamic, gives, stores, sweep, raises, looks, resets, effect_of, refusal, outcome, attempt_of, outcome_then, attempt_then_of, arm_count, pick_width, picks_arm, picks, decides, pick_of, select_of, wires, wires_block, command_plain, arms_plain, block_plain, Few, FewArms, FewBlock, saved, has_tag}
+use Rattle.sap_tagged.specs.Prelude.{Key, value_key, tag_key, refused_key, level_key, wire_key, first_key, inner_key, sort, Setting, var, bits, lub, yes, expr, tag_of, guard_of, test_of, written, stays, always, all_dynamic, gives, stores, sweep, raises, looks, resets, effect_of, refusal, attempt_of, attempt_then_of, arm_count, pick_width, picks_arm, picks, decides, pick_of, select_of, wires, wires_block, command_plain, arms_plain, block_plain, Few, FewArms, FewBlock, saved, has_tag}
 use Rattle.sap_tagged.proofs.Bools.{tagged_within, register_within, value_no_memory, kept_no_memory, enforced_within, tagged, tagged_memory}
 use Rattle.sap_tagged.proofs.StepTerms.{Placed}
 use Rattle.sap_tagged.proofs.Ends.{Among}
 use Rattle.sap_tagged.proofs.Conditions.{StepConditions, CommandConditions, ArmsConditions, BlockConditions}
-use Rattle.sap_tagged.proofs.Parts.{all_taken, all_dropped}
+use Rattle.sap_tagged.proofs.Parts.{tried, all_taken, all_dropped}
 use Rattle.sap_tagged.proofs.Fits.{Declares, Fine, number_fine, level_fine, lub_fine, bits_fine, yes_fine, guard_fine, test_fine, written_fine, stays_fine}
 
 -- what can be assigned, and is no register of a current child
@@ -265,31 +265,16 @@ module _ (d : Setting) (s : Source) (h : Declares d s) (fixed group : List Name)
         gives_fine (refused_key (site_of t)) yes (gives d (level_key (site_of t)) (var d (wire_key (k + 2))) handler) 1 site.0 (yes_fine d s h) (λ e. omega arith)
         (gives_fine (level_key (site_of t)) (var d (wire_key (k + 2))) handler d.tag site.1 ws.2.0 (λ e. omega arith) g)
 
-    attempt_fine : (p k : ℕ) (t : Step) (hangs : ℕ → Bool) (handler : Body) → IsWire d s p d.tag → StepWires d s k → Hangs d.world hangs
+    -- an effect, or an effect and an accepted part, and what a refusal leads to
+    tried_fine : (p k : ℕ) (t : Step) (hangs : ℕ → Bool) (done handler : Body) → IsWire d s p d.tag → StepWires d s k → Hangs d.world hangs
         → AllSites (sites.step_sites d.world sp.state sp.children t)
-        → FineStep d.world q sp.children t → SizedStep d.world t → RangedStep d.world t → StepConditions d.world t → Good handler → Good (attempt_of d sp p k t hangs handler)
-    unfolding attempt_of
-    attempt_fine p k t hangs handler pc ws hs site f z r c g =
-        let e = effect_fine k t ws f z r c in
-        looks_fine p k t (raises d hangs (k + 1) (outcome d sp k t handler)) pc ws f z r c
-        (raises_fine hangs (k + 1) (outcome d sp k t handler) hs ws.1
+        → FineStep d.world q sp.children t → SizedStep d.world t → RangedStep d.world t → StepConditions d.world t → Good done → Good handler → Good (tried d sp p k t hangs done handler)
+    tried_fine p k t hangs done handler pc ws hs site f z r c e g =
+        looks_fine p k t _ pc ws f z r c
+        (raises_fine hangs (k + 1) _ hs ws.1
         (elim (cases_Bool (always d.world sp t)) [
           | inl i ↦ rw i e
           | inr i ↦ rw i (ws.0.0, e, refusal_fine k t handler ws (site (site_of t) (site_listed d.world sp t i)) g, tt)
-        ]))
-
-    -- behind an accepted step's effect the accepted part
-    attempt_then_fine : (p k : ℕ) (t : Step) (hangs : ℕ → Bool) (x y : Body) → IsWire d s p d.tag → StepWires d s k → Hangs d.world hangs
-        → AllSites (sites.step_sites d.world sp.state sp.children t)
-        → FineStep d.world q sp.children t → SizedStep d.world t → RangedStep d.world t → StepConditions d.world t → Good x → Good y → Good (attempt_then_of d sp p k t hangs x y)
-    unfolding attempt_then_of
-    attempt_then_fine p k t hangs x y pc ws hs site f z r c gx gy =
-        let e = follow_fine (effect_of d sp k t) x (effect_fine k t ws f z r c) gx in
-        looks_fine p k t (raises d hangs (k + 1) (outcome_then d sp k t x y)) pc ws f z r c
-        (raises_fine hangs (k + 1) (outcome_then d sp k t x y) hs ws.1
-        (elim (cases_Bool (always d.world sp t)) [
-          | inl i ↦ rw i e
-          | inr i ↦ rw i (ws.0.0, e, refusal_fine k t y ws (site (site_of t) (site_listed d.world sp t i)) gy, tt)
         ]))
 
     select_fine : (p k : ℕ) (e : Term ℕ) (hangs : ℕ → Bool) (x y : Body) → IsWire d s p d.tag → IsWire d s k d.tag
@@ -357,16 +342,17 @@ module _ (d : Setting) (s : Source) (h : Declares d s) (fixed group : List Name)
         (decides_fine (k + 3) w w blocks (seat_positive count, seat_within count) j (omega arith) g)))))
 
     mutual
-      unfolding command_plain arms_plain block_plain
+      unfolding attempt_of attempt_then_of command_plain arms_plain block_plain
 
       command_fine : (p k : ℕ) (c : Command) → IsWire d s p d.tag → CommandWires d s k c → CommandHangs d.world sp c → AllSites (sites.command_sites d.world sp.state sp.children c)
           → Every (FineCommand d.world q sp.children) c → Every (SizedCommand d.world) c → Ranged d.world c → CommandConditions d.world c → Few c
           → Good (command_plain d sp p k c)
-      command_fine p k (lone t) pc ws hs site f z r c few = attempt_fine p k t (listed_alone d.world sp t) stop pc ws hs site f z r c tt
+      command_fine p k (lone t) pc ws hs site f z r c few =
+          tried_fine p k t (listed_alone d.world sp t) (effect_of d sp k t) stop pc ws hs site f z r c (effect_fine k t ws f z r c) tt
       command_fine p k (try t hang b) pc ws hs site f z r c few =
-          attempt_fine p k t (listed hang) (block_plain d sp (k + 2) (k + 5) b) pc ws.0 hs.0
+          tried_fine p k t (listed hang) (effect_of d sp k t) (block_plain d sp (k + 2) (k + 5) b) pc ws.0 hs.0
           (λ n i. site n (among_left (sites.step_sites d.world sp.state sp.children t) (sites.block_sites d.world sp.state sp.children b) n i)) f.0 z.0 r.0 c.0
-          (block_fine (k + 2) (k + 5) b ws.0.2 ws.1 hs.1
+          (effect_fine k t ws.0 f.0 z.0 r.0 c.0) (block_fine (k + 2) (k + 5) b ws.0.2 ws.1 hs.1
           (λ n i. site n (among_right (sites.step_sites d.world sp.state sp.children t) (sites.block_sites d.world sp.state sp.children b) n i)) f.1 z.1 r.1 c.1 few.1)
       command_fine p k (if_else hang e a b) pc ws hs site f z r c few =
           select_fine p k e (listed hang) (block_plain d sp (k + 1) (k + 2) a) (block_plain d sp (k + 1) (k + 2 + wires_block a) b) pc ws.0 ws.1 hs.0
@@ -379,9 +365,11 @@ module _ (d : Setting) (s : Source) (h : Declares d s) (fixed group : List Name)
           let own = sites.step_sites d.world sp.state sp.children t in
           let first = sites.block_sites d.world sp.state sp.children a in
           let second = sites.block_sites d.world sp.state sp.children b in
-          attempt_then_fine p k t (listed hang) (block_plain d sp (k + 2) (k + 5) a) (block_plain d sp (k + 2) (k + 5 + wires_block a) b) pc ws.0 hs.0
+          let x = block_plain d sp (k + 2) (k + 5) a in
+          tried_fine p k t (listed hang) (follow (effect_of d sp k t) x) (block_plain d sp (k + 2) (k + 5 + wires_block a) b) pc ws.0 hs.0
           (λ m i. site m (among_left own (first ++ second) m i)) f.0 z.0 r.0 c.0
-          (block_fine (k + 2) (k + 5) a ws.0.2 ws.1 hs.1 (λ m i. site m (among_right own (first ++ second) m (among_left first second m i))) f.1 z.1 r.1 c.1 few.1)
+          (follow_fine (effect_of d sp k t) x (effect_fine k t ws.0 f.0 z.0 r.0 c.0)
+          (block_fine (k + 2) (k + 5) a ws.0.2 ws.1 hs.1 (λ m i. site m (among_right own (first ++ second) m (among_left first second m i))) f.1 z.1 r.1 c.1 few.1))
           (block_fine (k + 2) (k + 5 + wires_block a) b ws.0.2 ws.2 hs.2 (λ m i. site m (among_right own (first ++ second) m (among_right first second m i))) f.2 z.2 r.2 c.2 few.2)
       command_fine p k (case_of hang e arms) pc ws hs site f z r c few =
           pick_fine p k e (listed hang) arms (arms_plain d sp (k + 1) (k + 4) arms) pc ws.0 ws.1 ws.2 ws.3 hs.0 (level_fine d s h e f.0 z.0.0 r.0 c.0)

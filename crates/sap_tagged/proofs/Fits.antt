@@ -138,9 +138,6 @@ module _ (d : Setting) (s : Source) (h : Declares d s) where
       lub_fine (tag_of d a) (tag_of d e) (level_fine a f.0 (t.0.0, t.1.0) r.1 c.0) (level_fine e f.1 (t.0.1, t.1.1) r.2 c.1)
   level_fine (part a hi lo) f t r c = level_fine a f (t.0.0, t.1) r.2 c
 
-  pub tag_fine : (e : Term ℕ) → Fit d.world e → Fine d.tag (tag_of d e)
-  tag_fine e f = level_fine e f.fine f.sized f.ranged f.conditions
-
   -- places
 
   widened_fine : (u : ℕ) (e : Term Name) → IsWidth u → Fine u e → Fine (place_width u) (widened u e)

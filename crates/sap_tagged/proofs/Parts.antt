@@ -20,6 +20,11 @@ all_dropped P zero xs h = h
 all_dropped P (suc n) [] h = tt
 all_dropped P (suc n) (x ∷ xs) h = all_dropped P n xs h.1
 
+-- a step with its looks, where what is done and what a refusal leads to are given
+abbrev pub tried : Setting → Home → (p k : ℕ) → Step → (hangs : ℕ → Bool) → (done handler : Body) → Body
+tried d sp p k t hangs done h =
+    looks d sp p k t (raises d hangs (k + 1) (if always d.world sp t then done else cases (var d (wire_key k)) done (refusal d k t h) stop))
+
 module _ (d : Setting) (P : Body → Type 0) (holds : OfParts P) where
   pub sweep_holds : (v : ℕ → Key) (h : ℕ → Bool) (t : ℕ → Term Name) (x m : ℕ) (rest : Body) → P rest → P (sweep d v h t x m rest)
   sweep_holds v h t x zero rest r = r
@@ -36,10 +41,8 @@ module _ (d : Setting) (P : Body → Type 0) (holds : OfParts P) where
   top_holds hangs k x rest r = sweep_holds first_key (saved d.world) (λ m. var d (tag_key m)) 0 (root d.world) _ (holds.sets _ _ _ (raised hangs k rest r))
 
   module _ (sp : Home) (p k : ℕ) where
-    -- an effect, or what an accepted part makes of it, and what a refusal leads to
-    tried : (t : Step) (hangs : ℕ → Bool) (done h : Body) → P done → P h
-        → P (looks d sp p k t (raises d hangs (k + 1) (if always d.world sp t then done else cases (var d (wire_key k)) done (refusal d k t h) stop)))
-    tried t hangs done h e r =
+    tried_holds : (t : Step) (hangs : ℕ → Bool) (done h : Body) → P done → P h → P (tried d sp p k t hangs done h)
+    tried_holds t hangs done h e r =
         holds.sets _ _ _ (holds.sets _ _ _ (holds.sets _ _ _ (holds.sets _ _ _ (holds.sets _ _ _ (raised hangs (k + 1) _ (elim (cases_Bool (always d.world sp t)) [
           | inl i ↦ rw i e
           | inr i ↦ rw i (holds.choice _ _ _ e (holds.sets _ _ _ (holds.sets _ _ _ r)))
@@ -47,11 +50,11 @@ module _ (d : Setting) (P : Body → Type 0) (holds : OfParts P) where
 
     pub attempt_holds : (t : Step) (hangs : ℕ → Bool) (h : Body) → P (effect_of d sp k t) → P h → P (attempt_of d sp p k t hangs h)
     unfolding attempt_of
-    attempt_holds t hangs h e r = tried t hangs (effect_of d sp k t) h e r
+    attempt_holds t hangs h e r = tried_holds t hangs (effect_of d sp k t) h e r
 
     pub attempt_then_holds : (t : Step) (hangs : ℕ → Bool) (x y : Body) → P (follow (effect_of d sp k t) x) → P y → P (attempt_then_of d sp p k t hangs x y)
     unfolding attempt_then_of
-    attempt_then_holds t hangs x y e r = tried t hangs (follow (effect_of d sp k t) x) y e r
+    attempt_then_holds t hangs x y e r = tried_holds t hangs (follow (effect_of d sp k t) x) y e r
 
   pub select_holds : (p k : ℕ) (e : Term ℕ) (hangs : ℕ → Bool) (x y : Body) → P x → P y → P (select_of d p k e hangs x y)
   unfolding select_of

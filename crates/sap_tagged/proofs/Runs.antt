@@ -76,46 +76,21 @@ module _ (d : Setting) (widths : Name → ℕ) (laws : Lawful d widths) (f : Goi
         goto_effect d widths laws f go enter q k free sp site target l b r g goes fine (placed.states target fine) (placed.siblings target fine).1 h.stands h.new
     effect_turns k free (fall_to_child site hang) l b r g fb fine h = fall_effect d widths laws f go enter base k free sp site hang l b r g fb falls h
 
-    outcome_turns : (k : ℕ) (t : Step) (h : Body) (m : ℕ → Store → After) → k ≤ base → FineStep d.world q sp.children t → BodyRuns d widths f go (k + 2) (k + 5) h m
-        → (b r : Store) (l : ℕ) (g : Going) → at d g (wire_key k) ≡ bit (test d.world sp t l b) → Begins d k sp t l b r g
-        → Turns d k g (body_does widths f go (outcome d sp k t h) g)
-        (if test d.world sp t l b then effect d.world sp enter t l b r
-        else with_refusal (site_of t) (d.world.order.join l (guard d.world sp t b)) (m (d.world.order.join l (guard d.world sp t b)) r))
-    outcome_turns k t h m kb fine runs b r l g tested begins = elim (cases_Bool (always d.world sp t)) [
-      | inl a ↦ rw (a, always_holds d.world sp t l b a) (effect_turns k k t l b r g kb fine begins)
+    -- what a step does, `after`, and what its refusal leads to
+    outcome_turns : (k later : ℕ) (t : Step) (done h : Body) (m : ℕ → Store → After) → k + 5 ≤ later → BodyRuns d widths f go (k + 2) later h m
+        → (b r : Store) (l : ℕ) (g : Going) (after : After) → at d g (wire_key k) ≡ bit (test d.world sp t l b) → Begins d k sp t l b r g
+        → Turns d k g (body_does widths f go done g) after
+        → Turns d k g (body_does widths f go (if always d.world sp t then done else cases (var d (wire_key k)) done (refusal d k t h) stop) g)
+        (if test d.world sp t l b then after else with_refusal (site_of t) (d.world.order.join l (guard d.world sp t b)) (m (d.world.order.join l (guard d.world sp t b)) r))
+    outcome_turns k later t done h m kh runs b r l g after tested begins e = elim (cases_Bool (always d.world sp t)) [
+      | inl a ↦ rw (a, always_holds d.world sp t l b a) e
       | inr a ↦
           rw a
           (elim (cases_Bool (test d.world sp t l b)) [
-            | inl e ↦ (let z : at d g (wire_key k) ≡ 1 = tested ∙ ap bit e in rw (e, z) (effect_turns k k t l b r g kb fine begins))
-            | inr e ↦ (let z : at d g (wire_key k) ≡ 0 = tested ∙ ap bit e in rw (e, z) (refusal_turns k (k + 5) t h m (omega arith) runs g r _ begins.stands begins.inside))
+            | inl i ↦ (let z : at d g (wire_key k) ≡ 1 = tested ∙ ap bit i in rw (i, z) e)
+            | inr i ↦ (let z : at d g (wire_key k) ≡ 0 = tested ∙ ap bit i in rw (i, z) (refusal_turns k later t h m (omega (arith, kh)) runs g r _ begins.stands begins.inside))
           ])
     ]
-
-    -- behind an accepted step's effect the accepted part
-    outcome_then_turns : (k from later : ℕ) (t : Step) (x h : Body) (mx m : ℕ → Store → After) → k + 5 ≤ from → k + 5 ≤ later → k + 5 ≤ base → FineStep d.world q sp.children t
-        → BodyRuns d widths f go (k + 2) from x mx → BodyRuns d widths f go (k + 2) later h m
-        → (b r : Store) (l : ℕ) (g : Going) → at d g (wire_key k) ≡ bit (test d.world sp t l b) → Begins d k sp t l b r g
-        → Turns d k g (body_does widths f go (outcome_then d sp k t x h) g)
-        (if test d.world sp t l b then and_then (effect d.world sp enter t l b r) (mx (d.world.order.join l (guard d.world sp t b)))
-        else with_refusal (site_of t) (d.world.order.join l (guard d.world sp t b)) (m (d.world.order.join l (guard d.world sp t b)) r))
-    outcome_then_turns k from later t x h mx m kx kh kb fine rx rh b r l g tested begins =
-        let inside = d.world.order.join l (guard d.world sp t b) in
-        let g1 = body_does widths f go (effect_of d sp k t) g in
-        let done = effect d.world sp enter t l b r in
-        let e : Turns d (k + 5) g g1 done = effect_turns k (k + 5) t l b r g kb fine begins in
-        let accepted : Turns d k g (body_does widths f go (follow (effect_of d sp k t) x) g) (and_then done (mx inside)) =
-        rw (does_follow d widths f go (effect_of d sp k t) x g)
-        (turns_then d k from g g1 (body_does widths f go x g1) done (mx inside) (omega (arith, kx)) (turns_less d k (k + 5) g g1 done (omega arith) e)
-        (rx g1 done.store inside e.stands (e.kept (k + 2) (omega arith) ∙ begins.inside))) in
-        elim (cases_Bool (always d.world sp t)) [
-          | inl a ↦ rw (a, always_holds d.world sp t l b a) accepted
-          | inr a ↦
-              rw a
-              (elim (cases_Bool (test d.world sp t l b)) [
-                | inl e ↦ (let z : at d g (wire_key k) ≡ 1 = tested ∙ ap bit e in rw (e, z) accepted)
-                | inr e ↦ (let z : at d g (wire_key k) ≡ 0 = tested ∙ ap bit e in rw (e, z) (refusal_turns k later t h m (omega (arith, kh)) rh g r _ begins.stands begins.inside))
-              ])
-        ]
 
     -- what is looked at, and the raises
     readied : (p k : ℕ) (t : Step) (hang : ℕ → Bool) (rest : Body) (l : ℕ) (s : Store) (g : Going) → p < k → FineStep d.world q sp.children t → Stands d g s
@@ -147,7 +122,8 @@ module _ (d : Setting) (widths : Name → ℕ) (laws : Lawful d widths) (f : Goi
     attempt_runs p k t hang h m pk kb fine runs g s l st pc =
         let a = readied p k t hang (outcome d sp k t h) l s g pk fine st pc in
         let g2 = a.0 in
-        let r = outcome_turns k t h m kb fine runs s (raise d.world.order hang (guard d.world sp t s) s) l g2 a.2 a.3 in
+        let b = raise d.world.order hang (guard d.world sp t s) s in
+        let r = outcome_turns k (k + 5) t (effect_of d sp k t) h m (omega arith) runs s b l g2 _ a.2 a.3 (effect_turns k k t l s b g2 kb fine a.3) in
         rw a.1 (turns_after d k k g g2 _ _ (omega arith) a.4 r)
 
     attempt_then_runs : (p k from later : ℕ) (t : Step) (hang : ℕ → Bool) (x h : Body) (mx m : ℕ → Store → After) → p < k → k + 5 ≤ from → k + 5 ≤ later → k + 5 ≤ base
@@ -157,7 +133,16 @@ module _ (d : Setting) (widths : Name → ℕ) (laws : Lawful d widths) (f : Goi
     attempt_then_runs p k from later t hang x h mx m pk kx kh kb fine rx rh g s l st pc =
         let a = readied p k t hang (outcome_then d sp k t x h) l s g pk fine st pc in
         let g2 = a.0 in
-        let r = outcome_then_turns k from later t x h mx m kx kh kb fine rx rh s (raise d.world.order hang (guard d.world sp t s) s) l g2 a.2 a.3 in
+        let b = raise d.world.order hang (guard d.world sp t s) s in
+        let inside = d.world.order.join l (guard d.world sp t s) in
+        let g3 = body_does widths f go (effect_of d sp k t) g2 in
+        let done = effect d.world sp enter t l s b in
+        let e : Turns d (k + 5) g2 g3 done = effect_turns k (k + 5) t l s b g2 kb fine a.3 in
+        let both : Turns d k g2 (body_does widths f go (follow (effect_of d sp k t) x) g2) (and_then done (mx inside)) =
+        rw (does_follow d widths f go (effect_of d sp k t) x g2)
+        (turns_then d k from g2 g3 (body_does widths f go x g3) done (mx inside) (omega (arith, kx)) (turns_less d k (k + 5) g2 g3 done (omega arith) e)
+        (rx g3 done.store inside e.stands (e.kept (k + 2) (omega arith) ∙ a.3.inside))) in
+        let r = outcome_turns k later t (follow (effect_of d sp k t) x) h m kh rh s b l g2 _ a.2 a.3 both in
         rw a.1 (turns_after d k k g g2 _ _ (omega arith) a.4 r)
 
     select_runs : (p k : ℕ) (e : Term ℕ) (hang : ℕ → Bool) (x y : Body) (mx my : ℕ → Store → After) (jx jy : ℕ) → p < k → k ≤ jx → k ≤ jy → FineTerm d.world e
