@@ -2,13 +2,13 @@
 use Rattle.sap_lemmas.proofs.Common.{◌≡◌, ◌+◌, ℕ, zero, suc, List, [], ◌∷◌, true, false, refl, ap, ◌∙◌, subst, Option, Some, None, nat_le, ◌&&◌, map, list_all, and_parts}
 use Rattle.sap_tree.proofs.SyntaxLemmas.{expression_of_outermost, tag_of_outermost}
 use Rattle.sap_parse.specs.Grammar as g
-use Rattle.sap_parse.specs.Stages.{Stage, IsSign, here, spot_here, mention, numeral}
+use Rattle.sap_parse.specs.Stages.{Stage, here, spot_here, mention, numeral}
 use Rattle.sap_parse.specs.declared.role.Role.TheVariants as r
 use Rattle.sap_lex.specs.declared.token.Sign.TheVariants as s
 use Rattle.sap_tree.specs.declared.word.Word.TheVariants as w
 use Rattle.sap_show.proofs.Pieces.{Piece, space, line, sign, word, name, expression, tag, tags, more_tags, constant, more_constants, constants, simple, margin, command, arms, block, else_part, commands, authority, kind, start, declaration, declarations, state, states, header, design}
 use Rattle.sap_show.proofs.ReadBack.{Stand, ReadsBack, ReadsTwo, expression_reads, as_expression}
-use Rattle.sap_tree.specs.Prelude.{nowhere, bare_expression, bare_expressions, bare_tag, bare_tags, bare_simple, bare_command, bare_block, bare_else, bare_arms, bare_list, bare_authority, bare_kind, bare_start, bare_declaration, bare_state, bare_states, bare, most_arms, most_blocks, Expression, literal, sized_literal, variable, cell_at, unary_of, binary_of, choice, slice, concat, zero_extend, Expressions, no_part, and_part, TagExpression, TagExpressions, level_of, tag_at, level_at, join_of, no_tag, and_tag, SimpleCommand, assign, write, set_tag, set_cell_tag, go_to, fall_to_child, Command, lone, try, if_else, try_then, case_of, Arms, last_arm, and_arm, CommandBlock, command_block, ElseBlock, no_else, with_else, CommandList, no_command, and_command, StateTree, state_node, StateList, no_state, and_state, DesignTree, is_tag, are_tags, has_two_tags, is_outermost, is_outermost_tag, is_simple, is_command, is_block, is_else, is_constant, are_constants, has_constant, arm_count, are_arms, are_commands, is_kind, is_state, are_states, has_state, block_depth, is_tree, is_declaration, is_name, is_second}
+use Rattle.sap_tree.specs.Prelude.{nowhere, bare_expression, bare_expressions, bare_tag, bare_tags, bare_simple, bare_command, bare_block, bare_else, bare_arms, bare_list, bare_authority, bare_kind, bare_start, bare_declaration, bare_state, bare_states, bare, most_arms, most_blocks, Expression, literal, sized_literal, Expressions, no_part, and_part, TagExpression, TagExpressions, level_of, tag_at, level_at, join_of, no_tag, and_tag, SimpleCommand, assign, write, set_tag, set_cell_tag, go_to, fall_to_child, Command, lone, try, if_else, try_then, case_of, Arms, last_arm, and_arm, CommandBlock, command_block, ElseBlock, no_else, with_else, CommandList, no_command, and_command, StateTree, state_node, StateList, no_state, and_state, DesignTree, is_tag, are_tags, has_two_tags, is_outermost, is_outermost_tag, is_simple, is_command, is_block, is_else, is_constant, are_constants, has_constant, arm_count, are_arms, are_commands, is_kind, is_state, are_states, has_state, block_depth, is_tree, is_declaration, is_name, is_second}
 use Rattle.sap_tree.specs.declared.syntax.Decl.{Decl}
 use Rattle.sap_tree.specs.declared.syntax.Kind.{Kind as KindTree}
 use Rattle.sap_tree.specs.declared.syntax.Numeral.{Numeral}
@@ -22,7 +22,8 @@ use Rattle.sap_tree.specs.declared.syntax.Kind.TheVariants as how
 mutual
   unfolding bare_tag is_tag
 
-  pub tag_reads : (version : Version) (x : TagExpression) → is_tag version x ≡ true → (rest : List Piece) (p q : Stage) → Stand (tag x rest) p q → ReadsBack bare_tag g.Texpr x rest p q
+  pub tag_reads : (version : Version) (x : TagExpression) → is_tag version x ≡ true → (rest : List Piece) (p q : Stage)
+      → Stand (tag x rest) p q → ReadsBack bare_tag g.Texpr x rest p q
   tag_reads version (level_of n) h rest p q o =
       record { tree = level_of (mention p n.name); same = refl; end = o.0; read = g.level o.1; follow = o.2 }
   tag_reads version (tag_at place x) h rest p q o =
@@ -85,7 +86,8 @@ mutual
         follow = l.follow;
       }
 
-  tags_read : (version : Version) (xs : TagExpressions) → are_tags version xs ≡ true → (rest : List Piece) (p q : Stage) → Stand (more_tags xs rest) p q → ReadsBack bare_tags g.Texprs xs rest p q
+  tags_read : (version : Version) (xs : TagExpressions) → are_tags version xs ≡ true → (rest : List Piece) (p q : Stage)
+      → Stand (more_tags xs rest) p q → ReadsBack bare_tags g.Texprs xs rest p q
   tags_read version no_tag h rest p q o = record { tree = no_tag; same = refl; end = p; read = g.no_tag; follow = o }
   tags_read version (and_tag x xs) h rest p q o =
       let e = and_parts (is_tag version x) (are_tags version xs) h in
@@ -168,7 +170,8 @@ constant_reads (literal spot n) h rest p q o = record { tree = literal (spot_her
 constant_reads (sized_literal spot width n) h rest p q o = record { tree = sized_literal (spot_here p) width n; same = refl; end = o.0; read = g.wide o.1; follow = o.2 }
 constant_reads _ h rest p q o = absurd (cc)
 
-constants_read : (xs : Expressions) → are_constants xs ≡ true → (rest : List Piece) (p q : Stage) → Stand (more_constants xs rest) p q → ReadsBack bare_expressions g.Constants xs rest p q
+constants_read : (xs : Expressions) → are_constants xs ≡ true → (rest : List Piece) (p q : Stage)
+    → Stand (more_constants xs rest) p q → ReadsBack bare_expressions g.Constants xs rest p q
 unfolding bare_expression
 constants_read no_part h rest p q o = record { tree = no_part; same = refl; end = p; read = g.no_constant; follow = o }
 constants_read (and_part x xs) h rest p q o =

@@ -98,6 +98,11 @@ bounds_apart version high low h l rest e a =
     a_number version r.Inner high h (sign r.Inner s.Colon ∷ number r.Inner low ∷ sign r.Closing s.CloseBracket ∷ rest) refl
     (a_number version r.Inner low l (sign r.Closing s.CloseBracket ∷ rest) refl a)
 
+-- a list of parts is apart as one with a comma in front is
+parts_apart : (version : Version) (xs : Expressions) (rest : List Piece) → apart version (more_parts xs rest) ≡ true → apart version (parts xs rest) ≡ true
+parts_apart version no_part rest a = a
+parts_apart version _ rest a = a
+
 mutual
   unfolding is_expression
 
@@ -131,17 +136,12 @@ mutual
       wrapped_apart version (nat_lt (precedence_of x) slice_precedence) (λ ps. expression x ps) (λ ps i j. expression_apart version x g.0 ps i j)
       (bounds high low rest) refl (bounds_apart version high low g.1 f.1 rest e a)
   expression_apart version (concat spot xs) h rest e a =
-      parts_apart version xs (and_parts (has_two_parts xs) (are_expressions version xs) h).1 (sign r.Closing s.CloseBrace ∷ rest) refl a
+      parts_apart version xs (sign r.Closing s.CloseBrace ∷ rest)
+      (more_parts_apart version xs (and_parts (has_two_parts xs) (are_expressions version xs) h).1 (sign r.Closing s.CloseBrace ∷ rest) refl a)
   expression_apart version (zero_extend spot x width) h rest e a =
       let f = and_parts (is_expression version x) (is_number width) h in
       expression_apart version x f.0 (sign r.Inner s.Comma ∷ space ∷ number r.Inner width ∷ sign r.Closing s.CloseParen ∷ rest) refl
       (a_number version r.Inner width f.1 (sign r.Closing s.CloseParen ∷ rest) refl a)
-
-  parts_apart : (version : Version) (xs : Expressions) → are_expressions version xs ≡ true → Apart version (parts xs)
-  parts_apart version no_part h rest e a = a
-  parts_apart version (and_part x xs) h rest e a =
-      let f = and_parts (is_expression version x) (are_expressions version xs) h in
-      expression_apart version x f.0 (more_parts xs rest) (more_parts_end xs rest e) (more_parts_apart version xs f.1 rest e a)
 
   more_parts_apart : (version : Version) (xs : Expressions) → are_expressions version xs ≡ true → Apart version (more_parts xs)
   more_parts_apart version no_part h rest e a = a
@@ -157,6 +157,10 @@ more_tags_end : (xs : TagExpressions) (rest : List Piece) → ends_run rest ≡ 
 more_tags_end no_tag rest e = e
 more_tags_end (and_tag x xs) rest e = refl
 
+tags_apart : (version : Version) (xs : TagExpressions) (rest : List Piece) → apart version (more_tags xs rest) ≡ true → apart version (tags xs rest) ≡ true
+tags_apart version no_tag rest a = a
+tags_apart version _ rest a = a
+
 mutual
   unfolding is_tag
 
@@ -164,13 +168,9 @@ mutual
   tag_apart version (level_of n) h rest e a = a_name version r.Inner n.name h rest e a
   tag_apart version (tag_at place x) h rest e a = expression_apart version x h (sign r.Closing s.CloseParen ∷ rest) refl a
   tag_apart version (level_at place x) h rest e a = expression_apart version x h (sign r.Closing s.CloseParen ∷ rest) refl a
-  tag_apart version (join_of place xs) h rest e a = tags_apart version xs (and_parts (has_two_tags xs) (are_tags version xs) h).1 (sign r.Closing s.CloseParen ∷ rest) refl a
-
-  tags_apart : (version : Version) (xs : TagExpressions) → are_tags version xs ≡ true → Apart version (tags xs)
-  tags_apart version no_tag h rest e a = a
-  tags_apart version (and_tag x xs) h rest e a =
-      let f = and_parts (is_tag version x) (are_tags version xs) h in
-      tag_apart version x f.0 (more_tags xs rest) (more_tags_end xs rest e) (more_tags_apart version xs f.1 rest e a)
+  tag_apart version (join_of place xs) h rest e a =
+      tags_apart version xs (sign r.Closing s.CloseParen ∷ rest)
+      (more_tags_apart version xs (and_parts (has_two_tags xs) (are_tags version xs) h).1 (sign r.Closing s.CloseParen ∷ rest) refl a)
 
   more_tags_apart : (version : Version) (xs : TagExpressions) → are_tags version xs ≡ true → Apart version (more_tags xs)
   more_tags_apart version no_tag h rest e a = a
@@ -225,9 +225,7 @@ more_constants_apart version (and_part x xs) h rest e a =
 
 constants_apart : (version : Version) (xs : Expressions) → are_constants xs ≡ true → Apart version (constants xs)
 constants_apart version no_part h rest e a = a
-constants_apart version (and_part x xs) h rest e a =
-    let f = and_parts (is_constant x) (are_constants xs) h in
-    constant_apart version x f.0 (more_constants xs rest) (more_constants_end xs rest e) (more_constants_apart version xs f.1 rest e a)
+constants_apart version xs h rest e a = more_constants_apart version xs h rest e a
 
 margin_apart : (version : Version) (level : ℕ) (rest : List Piece) → apart version rest ≡ true → apart version (margin level rest) ≡ true
 margin_apart version zero rest a = a

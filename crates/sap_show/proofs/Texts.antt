@@ -1,5 +1,5 @@
 -- The text of each construct, from left to right.
-use Rattle.sap_lemmas.proofs.Common.{◌≡◌, ℕ, zero, suc, ◌+◌, ◌-◌, ◌<◌, ◌≤◌, List, [], ◌∷◌, ◌++◌, length, get_or, drop, take, refl, sym, ap, ◌∙◌, arith, add-one, append_assoc, Some, None, true, false, cond, nat_tests, codes, decimal, nat_lt, flat_map, after_part, append-nil}
+use Rattle.sap_lemmas.proofs.Common.{◌≡◌, ℕ, ◌+◌, ◌-◌, ◌<◌, ◌≤◌, List, [], ◌∷◌, ◌++◌, length, get_or, drop, take, refl, sym, ap, ◌∙◌, arith, append_assoc, at_drop_all, at_drop_more, Some, None, true, false, cond, nat_tests, codes, decimal, nat_lt, flat_map, after_part, append-nil}
 use Rattle.sap_lemmas.proofs.Lists.{take_rest_of}
 use Rattle.sap_show.specs.Canonical.{unary_text, binary_text, operand_text, bounds_text, expression_text, parts_text, more_parts_text, tag_text, tags_text, more_tags_text, cell_text, simple_text, command_text, arms_text, block_text, else_text, declaration_text, head_text, state_text, version_text, canonical_text}
 use Rattle.sap_show.specs.Lists.{list_arms_text, list_text, group_text}
@@ -19,8 +19,6 @@ use Rattle.sap_tree.specs.declared.version.Version.{Version}
 use Rattle.sap_tree.specs.Syntax
 use Rattle.sap_text.specs.declared.place.Place.{Place}
 use Rattle.sap_tree.proofs.Views.{state_of-out}
-
--- digits
 
 -- operands
 
@@ -111,57 +109,50 @@ nothing_more old t e = sym (append-nil old) ∙ ap (λ z. old ++ z) (sym e)
 
 -- parts, the first of them in front; a pattern's rest is seen as what is left behind the first
 
+none_of : {A : Type 0} (text : List A → List ℕ) (xs : List A) → length xs < 1 → text xs ≡ text []
+none_of text [] h = refl
+none_of text (x ∷ xs) h = absurd (omega arith)
+
+first_of : {A : Type 0} (text : List A → List ℕ) (xs : List A) (d : A) → 1 ≤ length xs → d ≡ get_or xs 0 d → text xs ≡ text (d ∷ take (length xs - 1) (drop 1 xs))
+first_of text [] d h e = absurd (omega arith)
+first_of {A} text (x ∷ xs) d h e =
+    ap (λ (r : List A). text (x ∷ r)) (sym (take_rest_of x xs)) ∙ ap (λ (y : A). text (y ∷ take (length (x ∷ xs) - 1) (drop 1 (x ∷ xs)))) (sym e)
+
 pub parts_none : (xs : List Expr) → length xs < 1 → parts_text (expressions_of xs) ≡ []
 unfolding expression_text
-parts_none [] h = refl
-parts_none (x ∷ xs) h = absurd (omega arith)
+parts_none xs h = none_of (λ ys. parts_text (expressions_of ys)) xs h
 
 pub more_parts_none : (xs : List Expr) → length xs < 1 → more_parts_text (expressions_of xs) ≡ []
 unfolding expression_text
-more_parts_none [] h = refl
-more_parts_none (x ∷ xs) h = absurd (omega arith)
+more_parts_none xs h = none_of (λ ys. more_parts_text (expressions_of ys)) xs h
 
 pub parts_first : (xs : List Expr) (d : Expr) → 1 ≤ length xs → d ≡ get_or xs 0 d
     → parts_text (expressions_of xs) ≡ expression_text (expression_of d) ++ more_parts_text (expressions_of (take (length xs - 1) (drop 1 xs)))
 unfolding expression_text
-parts_first [] d h e = absurd (omega arith)
-parts_first (x ∷ xs) d h e =
-    ap (λ (r : List Expr). expression_text (expression_of x) ++ more_parts_text (expressions_of r)) (sym (take_rest_of x xs))
-    ∙ ap (λ (y : Expr). expression_text (expression_of y) ++ more_parts_text (expressions_of (take (length (x ∷ xs) - 1) (drop 1 (x ∷ xs))))) (sym e)
+parts_first xs d h e = first_of (λ ys. parts_text (expressions_of ys)) xs d h e
 
 pub more_parts_first : (xs : List Expr) (d : Expr) → 1 ≤ length xs → d ≡ get_or xs 0 d
     → more_parts_text (expressions_of xs) ≡ codes ", " ++ (expression_text (expression_of d) ++ more_parts_text (expressions_of (take (length xs - 1) (drop 1 xs))))
 unfolding expression_text
-more_parts_first [] d h e = absurd (omega arith)
-more_parts_first (x ∷ xs) d h e =
-    ap (λ (r : List Expr). codes ", " ++ (expression_text (expression_of x) ++ more_parts_text (expressions_of r))) (sym (take_rest_of x xs))
-    ∙ ap (λ (y : Expr). codes ", " ++ (expression_text (expression_of y) ++ more_parts_text (expressions_of (take (length (x ∷ xs) - 1) (drop 1 (x ∷ xs)))))) (sym e)
+more_parts_first xs d h e = first_of (λ ys. more_parts_text (expressions_of ys)) xs d h e
 
 pub tags_none : (xs : List TagExpr) → length xs < 1 → tags_text (tags_of xs) ≡ []
 unfolding tag_text
-tags_none [] h = refl
-tags_none (x ∷ xs) h = absurd (omega arith)
+tags_none xs h = none_of (λ ys. tags_text (tags_of ys)) xs h
 
 pub more_tags_none : (xs : List TagExpr) → length xs < 1 → more_tags_text (tags_of xs) ≡ []
 unfolding tag_text
-more_tags_none [] h = refl
-more_tags_none (x ∷ xs) h = absurd (omega arith)
+more_tags_none xs h = none_of (λ ys. more_tags_text (tags_of ys)) xs h
 
 pub tags_first : (xs : List TagExpr) (d : TagExpr) → 1 ≤ length xs → d ≡ get_or xs 0 d
     → tags_text (tags_of xs) ≡ tag_text (tag_of d) ++ more_tags_text (tags_of (take (length xs - 1) (drop 1 xs)))
 unfolding tag_text
-tags_first [] d h e = absurd (omega arith)
-tags_first (x ∷ xs) d h e =
-    ap (λ (r : List TagExpr). tag_text (tag_of x) ++ more_tags_text (tags_of r)) (sym (take_rest_of x xs))
-    ∙ ap (λ (y : TagExpr). tag_text (tag_of y) ++ more_tags_text (tags_of (take (length (x ∷ xs) - 1) (drop 1 (x ∷ xs))))) (sym e)
+tags_first xs d h e = first_of (λ ys. tags_text (tags_of ys)) xs d h e
 
 pub more_tags_first : (xs : List TagExpr) (d : TagExpr) → 1 ≤ length xs → d ≡ get_or xs 0 d
     → more_tags_text (tags_of xs) ≡ codes ", " ++ (tag_text (tag_of d) ++ more_tags_text (tags_of (take (length xs - 1) (drop 1 xs))))
 unfolding tag_text
-more_tags_first [] d h e = absurd (omega arith)
-more_tags_first (x ∷ xs) d h e =
-    ap (λ (r : List TagExpr). codes ", " ++ (tag_text (tag_of x) ++ more_tags_text (tags_of r))) (sym (take_rest_of x xs))
-    ∙ ap (λ (y : TagExpr). codes ", " ++ (tag_text (tag_of y) ++ more_tags_text (tags_of (take (length (x ∷ xs) - 1) (drop 1 (x ∷ xs)))))) (sym e)
+more_tags_first xs d h e = first_of (λ ys. more_tags_text (tags_of ys)) xs d h e
 
 -- tag expressions
 
@@ -310,16 +301,12 @@ text_else margin b = refl
 list_text-drop : (margin : List ℕ) (cs : List Cmd) (n : ℕ) (d : Cmd) → n < length cs → d ≡ get_or cs n d
     → list_text margin (drop n cs) ≡ command_text margin (command_of d) ++ list_text margin (drop (n + 1) cs)
 unfolding list_text command_text
-list_text-drop margin [] n d l e = absurd (omega arith)
-list_text-drop margin (c ∷ cs) zero d l e = ap (λ (x : Cmd). command_text margin (command_of x) ++ list_text margin cs) (sym e)
-list_text-drop margin (c ∷ cs) (suc n) d l e = let r = list_text-drop margin cs n d (omega arith) e in simp (add-one) (simp (add-one) at r)
+list_text-drop margin cs n d l e =
+    at_drop_more (list_text margin) cs n d l ∙ ap (λ (x : Cmd). command_text margin (command_of x) ++ list_text margin (drop (n + 1) cs)) (sym e)
 
 pub list_text-past : (margin : List ℕ) (cs : List Cmd) (n : ℕ) → length cs ≤ n → list_text margin (drop n cs) ≡ []
 unfolding list_text command_text
-list_text-past margin [] zero l = refl
-list_text-past margin [] (suc n) l = refl
-list_text-past margin (c ∷ cs) zero l = absurd (omega arith)
-list_text-past margin (c ∷ cs) (suc n) l = list_text-past margin cs n (omega arith)
+list_text-past margin cs n l = at_drop_all (list_text margin) cs n l
 
 pub commands_step : (margin : List ℕ) (cs : List Cmd) (n : ℕ) (d : Cmd) (old new : List ℕ) → n < length cs → d ≡ get_or cs n d
     → new ≡ old ++ command_text margin (command_of d) → new ++ list_text margin (drop (n + 1) cs) ≡ old ++ list_text margin (drop n cs)
@@ -331,17 +318,14 @@ list_arms_text-drop : (margin : List ℕ) (arms : List Arm) (n : ℕ) (d : Arm) 
     → list_arms_text margin (drop n arms)
     ≡ margin ++ (parts_text (constants_of d) ++ (codes ":" ++ (block_text margin (arm_block_of d) ++ (codes "\n" ++ list_arms_text margin (drop (n + 1) arms)))))
 unfolding list_arms_text
-list_arms_text-drop margin [] n d l e = absurd (omega arith)
-list_arms_text-drop margin (a ∷ arms) zero d l e =
-    ap (λ (x : Arm). margin ++ (parts_text (constants_of x) ++ (codes ":" ++ (block_text margin (arm_block_of x) ++ (codes "\n" ++ list_arms_text margin arms))))) (sym e)
-list_arms_text-drop margin (a ∷ arms) (suc n) d l e = let r = list_arms_text-drop margin arms n d (omega arith) e in simp (add-one) (simp (add-one) at r)
+list_arms_text-drop margin arms n d l e =
+    let rest = list_arms_text margin (drop (n + 1) arms) in
+    at_drop_more (list_arms_text margin) arms n d l
+    ∙ ap (λ (x : Arm). margin ++ (parts_text (constants_of x) ++ (codes ":" ++ (block_text margin (arm_block_of x) ++ (codes "\n" ++ rest))))) (sym e)
 
 list_arms_text-past : (margin : List ℕ) (arms : List Arm) (n : ℕ) → length arms ≤ n → list_arms_text margin (drop n arms) ≡ []
 unfolding list_arms_text
-list_arms_text-past margin [] zero l = refl
-list_arms_text-past margin [] (suc n) l = refl
-list_arms_text-past margin (a ∷ arms) zero l = absurd (omega arith)
-list_arms_text-past margin (a ∷ arms) (suc n) l = list_arms_text-past margin arms n (omega arith)
+list_arms_text-past margin arms n l = at_drop_all (list_arms_text margin) arms n l
 
 pub arms_step : (margin : List ℕ) (arms : List Arm) (n : ℕ) (d : Arm) (constants : List Expr) (old a b c e new : List ℕ) → n < length arms
     → d ≡ get_or arms n d → constants ≡ d.constants.items
@@ -364,16 +348,12 @@ list_end margin cs n new all l h = sym (append-nil new) ∙ ap (λ r. new ++ r) 
 group_text-drop : (margin : List ℕ) (ss : List State) (n : ℕ) (d : State) → n < length ss → d ≡ get_or ss n d
     → group_text margin (drop n ss) ≡ state_text margin (state_of d) ++ group_text margin (drop (n + 1) ss)
 unfolding group_text state_text
-group_text-drop margin [] n d l e = absurd (omega arith)
-group_text-drop margin (s ∷ ss) zero d l e = ap (λ (x : State). state_text margin (state_of x) ++ group_text margin ss) (sym e)
-group_text-drop margin (s ∷ ss) (suc n) d l e = let r = group_text-drop margin ss n d (omega arith) e in simp (add-one) (simp (add-one) at r)
+group_text-drop margin ss n d l e =
+    at_drop_more (group_text margin) ss n d l ∙ ap (λ (x : State). state_text margin (state_of x) ++ group_text margin (drop (n + 1) ss)) (sym e)
 
 pub group_text-past : (margin : List ℕ) (ss : List State) (n : ℕ) → length ss ≤ n → group_text margin (drop n ss) ≡ []
 unfolding group_text state_text
-group_text-past margin [] zero l = refl
-group_text-past margin [] (suc n) l = refl
-group_text-past margin (s ∷ ss) zero l = absurd (omega arith)
-group_text-past margin (s ∷ ss) (suc n) l = group_text-past margin ss n (omega arith)
+group_text-past margin ss n l = at_drop_all (group_text margin) ss n l
 
 pub states_step : (margin : List ℕ) (ss : List State) (n : ℕ) (d : State) (old new : List ℕ) → n < length ss → d ≡ get_or ss n d
     → new ≡ old ++ state_text margin (state_of d) → new ++ group_text margin (drop (n + 1) ss) ≡ old ++ group_text margin (drop n ss)

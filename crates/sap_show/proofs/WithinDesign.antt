@@ -1,5 +1,5 @@
 -- The same of tag expressions, commands, declarations and states.
-use Rattle.sap_lemmas.proofs.Common.{◌≡◌, ◌≤◌, ◌+◌, ℕ, zero, suc, List, [], ◌∷◌, max, Bool, true, cond, refl, ap, ◌∙◌, arith, subst, Option, Some, None, sum_by-cons, list_all, count_by, nat_le, ◌&&◌, and_parts, leb-true}
+use Rattle.sap_lemmas.proofs.Common.{◌≡◌, ◌≤◌, ◌+◌, ℕ, zero, suc, List, [], ◌∷◌, max, Bool, true, false, cond, refl, ap, ◌∙◌, arith, subst, Option, Some, None, sum_by-cons, list_all, count_by, nat_le, ◌&&◌, and_parts, leb-true}
 use Rattle.sap_parse.specs.Limits.{Counts, none_yet, breach_of_name, above, ◌or_else◌}
 use Rattle.sap_lex.specs.declared.limit.Limit.TheVariants as l
 use Rattle.sap_parse.specs.declared.role.Role.TheVariants as r
@@ -7,9 +7,10 @@ use Rattle.sap_lex.specs.declared.token.Kind.TheVariants as k
 use Rattle.sap_lex.specs.declared.token.Kind.{Kind}
 use Rattle.sap_lex.specs.declared.token.Sign.TheVariants as s
 use Rattle.sap_tree.specs.declared.word.Word.TheVariants as w
+use Rattle.sap_tree.specs.declared.word.Word.{Word}
 use Rattle.sap_show.proofs.Pieces.{Piece, space, line, token, sign, word, name, number, expression, tag, tags, more_tags, constant, more_constants, constants, simple, margin, command, arms, block, else_part, commands, authority, kind, start, declarations, state, states, header, parts_of, design}
 use Rattle.sap_show.proofs.Within.{Within, at, Counted, inner_step, inner_free, opening_free, closing_step, not_above, short_name, expression_counted}
-use Rattle.sap_tree.specs.Prelude.{tokens, brackets, tag_tokens, tag_part_tokens, tag_brackets, tag_part_brackets, fits, tag_fits, most_brackets, most_tokens, most_commands, most_arms, most_blocks, most_states, Expression, literal, sized_literal, variable, cell_at, unary_of, binary_of, choice, slice, concat, zero_extend, Expressions, no_part, and_part, TagExpression, TagExpressions, level_of, tag_at, level_at, join_of, no_tag, and_tag, SimpleCommand, assign, write, set_tag, set_cell_tag, go_to, fall_to_child, Command, lone, try, if_else, try_then, case_of, Arms, last_arm, and_arm, CommandBlock, command_block, ElseBlock, no_else, with_else, CommandList, no_command, and_command, StateTree, state_node, StateList, no_state, and_state, DesignTree, is_expression, is_tag, are_tags, has_two_tags, is_outermost, is_outermost_tag, is_simple, is_command, is_block, is_else, is_constant, are_constants, has_constant, has_arm, arm_count, are_arms, are_commands, is_kind, is_authority, is_start, is_number, is_declaration, is_input, is_register, is_memory, is_state, are_states, has_state, command_count, block_count, else_count, arms_count, list_count, command_depth, block_depth, else_depth, arms_depth, list_depth, state_count, states_count, state_depth, states_depth, state_commands, states_commands, is_tree, is_within_limits, is_whole, is_name, is_second}
+use Rattle.sap_tree.specs.Prelude.{tokens, brackets, tag_tokens, tag_part_tokens, tag_brackets, tag_part_brackets, fits, tag_fits, most_brackets, most_tokens, most_commands, most_arms, most_blocks, most_states, Expression, literal, sized_literal, Expressions, no_part, and_part, TagExpression, TagExpressions, level_of, tag_at, level_at, join_of, no_tag, and_tag, SimpleCommand, assign, write, set_tag, set_cell_tag, go_to, fall_to_child, Command, lone, try, if_else, try_then, case_of, Arms, last_arm, and_arm, CommandBlock, command_block, ElseBlock, no_else, with_else, CommandList, no_command, and_command, StateTree, state_node, StateList, no_state, and_state, DesignTree, is_expression, is_tag, are_tags, has_two_tags, is_outermost, is_outermost_tag, is_simple, is_command, is_block, is_else, is_constant, are_constants, has_constant, has_arm, arm_count, are_arms, are_commands, is_kind, is_authority, is_start, is_number, is_declaration, is_input, is_register, is_memory, is_state, are_states, has_state, command_count, block_count, else_count, arms_count, list_count, command_depth, block_depth, else_depth, arms_depth, list_depth, state_count, states_count, state_depth, states_depth, state_commands, states_commands, is_tree, is_within_limits, is_whole, is_name, is_second}
 use Rattle.sap_tree.specs.declared.syntax.Decl.{Decl}
 use Rattle.sap_tree.specs.declared.syntax.Kind.{Kind as KindTree}
 use Rattle.sap_tree.specs.declared.syntax.Numeral.{Numeral}
@@ -22,31 +23,25 @@ use Rattle.sap_tree.specs.declared.syntax.Kind.TheVariants as how
 
 -- tag expressions
 module _ (c : Counts) where
+  -- a word, and an expression in parentheses
+  word_counted : (version : Version) (v : Word) (x : Expression) → is_expression version x ≡ true
+      → Counted c (tokens x + 3) (1 + brackets x) (λ rest. word r.Inner v ∷ sign r.Opening s.OpenParen ∷ expression x (sign r.Closing s.CloseParen ∷ rest))
+  word_counted version v x h t u b rest e top room a = (
+    inner_free t (k.Word v) refl (omega arith),
+    (
+      opening_free (t + 1) b (omega arith) (omega arith),
+      (expression_counted c version x h (t + 1 + 1) (t + 1 + 1 + tokens x) (b + 1) (sign r.Closing s.CloseParen ∷ rest) refl (omega arith) (omega arith)
+          (closing_step c (t + 1 + 1 + tokens x) u b s.CloseParen rest (omega arith) top a)),
+    ),
+  )
+
   mutual
     unfolding is_tag tag_tokens tag_brackets
 
     pub tag_counted : (version : Version) (x : TagExpression) → is_tag version x ≡ true → Counted c (tag_tokens x) (tag_brackets x) (tag x)
     tag_counted version (level_of n) h t u b rest e top room a = inner_step c t u b (k.Name n.name) rest (short_name version n.name h) e top a
-    tag_counted version (tag_at place x) h t u b rest e top room a =
-        let same : u ≡ t + (tokens x + 3) = e in
-        let fits : b + (1 + brackets x) ≤ most_brackets = room in (
-          inner_free t (k.Word w.Tag) refl (omega arith),
-          (
-            opening_free (t + 1) b (omega arith) (omega arith),
-            (expression_counted c version x h (t + 1 + 1) (t + 1 + 1 + tokens x) (b + 1) (sign r.Closing s.CloseParen ∷ rest) refl (omega arith) (omega arith)
-                (closing_step c (t + 1 + 1 + tokens x) u b s.CloseParen rest (omega arith) top a)),
-          ),
-        )
-    tag_counted version (level_at place x) h t u b rest e top room a =
-        let same : u ≡ t + (tokens x + 3) = e in
-        let fits : b + (1 + brackets x) ≤ most_brackets = room in (
-          inner_free t (k.Word w.Level) refl (omega arith),
-          (
-            opening_free (t + 1) b (omega arith) (omega arith),
-            (expression_counted c version x h (t + 1 + 1) (t + 1 + 1 + tokens x) (b + 1) (sign r.Closing s.CloseParen ∷ rest) refl (omega arith) (omega arith)
-                (closing_step c (t + 1 + 1 + tokens x) u b s.CloseParen rest (omega arith) top a)),
-          ),
-        )
+    tag_counted version (tag_at place x) h t u b rest e top room a = word_counted version w.Tag x h t u b rest e top room a
+    tag_counted version (level_at place x) h t u b rest e top room a = word_counted version w.Level x h t u b rest e top room a
     tag_counted version (join_of place xs) h t u b rest e top room a =
         let f = and_parts (has_two_tags xs) (are_tags version xs) h in
         let same : u ≡ t + (2 + tag_part_tokens xs) = e in
@@ -89,6 +84,12 @@ plain_free kind free = ap (λ o. o or_else None) free
 plain : (c : Counts) (kind : Kind) (ps : List Piece) → breach_of_name kind ≡ None → Within (at c 0 0) ps → Always c (token r.Plain kind ∷ ps)
 plain c kind ps free h t b = (ap (λ o. o or_else None) free, h)
 
+zero_more : (n : ℕ) → n ≡ 0 + n
+zero_more n = omega arith
+
+none_open : (n : ℕ) → n ≤ most_brackets → 0 + n ≤ most_brackets
+none_open n h = omega arith
+
 -- an expression that stands in no other, in front of a token that stands in none
 outermost : (version : Version) (c : Counts) (x : Expression) (rest : List Piece) → is_outermost version x ≡ true → Always c rest → Within (at c 0 0) (expression x rest)
 outermost version c x rest h a =
@@ -96,12 +97,6 @@ outermost version c x rest h a =
     let g = and_parts (nat_le (tokens x) most_tokens) (nat_le (brackets x) most_brackets) f.1 in
     expression_counted c version x f.0 0 (tokens x) 0 rest (zero_more (tokens x)) (leb-true (tokens x) most_tokens g.0)
     (none_open (brackets x) (leb-true (brackets x) most_brackets g.1)) (a (tokens x) 0)
-  where
-    zero_more : (n : ℕ) → n ≡ 0 + n
-    zero_more n = omega arith
-
-    none_open : (n : ℕ) → n ≤ most_brackets → 0 + n ≤ most_brackets
-    none_open n h = omega arith
 
 outermost_tag : (version : Version) (c : Counts) (x : TagExpression) (rest : List Piece) → is_outermost_tag version x ≡ true → Always c rest → Within (at c 0 0) (tag x rest)
 outermost_tag version c x rest h a =
@@ -109,12 +104,6 @@ outermost_tag version c x rest h a =
     let g = and_parts (nat_le (tag_tokens x) most_tokens) (nat_le (tag_brackets x) most_brackets) f.1 in
     tag_counted c version x f.0 0 (tag_tokens x) 0 rest (zero_more (tag_tokens x)) (leb-true (tag_tokens x) most_tokens g.0)
     (none_open (tag_brackets x) (leb-true (tag_brackets x) most_brackets g.1)) (a (tag_tokens x) 0)
-  where
-    zero_more : (n : ℕ) → n ≡ 0 + n
-    zero_more n = omega arith
-
-    none_open : (n : ℕ) → n ≤ most_brackets → 0 + n ≤ most_brackets
-    none_open n h = omega arith
 
 -- commands
 
@@ -129,11 +118,7 @@ begins_free c depth kind free n m =
 
 begins_command : (c : Counts) (depth : ℕ) (kind : Kind) (ps : List Piece) → breach_of_name kind ≡ None → c.commands + 1 ≤ most_commands → depth ≤ most_blocks
     → Within (at (with_commands c (c.commands + 1)) 0 0) ps → Always c (token (r.Command depth) kind ∷ ps)
-begins_command c depth kind ps free n m h t b = (
-  ap (λ o. o or_else (above most_commands (c.commands + 1) l.Commands or_else above most_blocks depth l.Blocks)) free
-      ∙ ap (λ o. o or_else above most_blocks depth l.Blocks) (not_above most_commands (c.commands + 1) l.Commands n) ∙ not_above most_blocks depth l.Blocks m,
-  h,
-)
+begins_command c depth kind ps free n m h t b = (begins_free c depth kind free n m, h)
 
 simple_within : (version : Version) (depth : ℕ) (x : SimpleCommand) → is_simple version x ≡ true → (c : Counts) (rest : List Piece)
     → c.commands + 1 ≤ most_commands → depth ≤ most_blocks
@@ -360,11 +345,13 @@ declared_within : (version : Version) (n : List ℕ) (width : ℕ) → is_name v
     → Within (at c 0 0) (space ∷ name r.Plain n ∷ space ∷ sign r.Plain s.Colon ∷ space ∷ number r.Plain width ∷ rest)
 declared_within version n width h c rest a = (plain_free (k.Name n) (short_name version n h), (plain_free (k.Sign s.Colon) refl, (plain c (k.Number width) rest refl a 0 0)))
 
--- as many declarations of a sort, this one counted
-one_counted : (sort : Decl → Bool) (x : Decl) (xs : List Decl) (before all one : ℕ) → cond (sort x) 1 0 ≡ one → all ≡ before + count_by sort (x ∷ xs)
-    → all ≡ before + (one + count_by sort xs)
-one_counted sort x xs before all one o e =
-    e ∙ ap (λ n. before + n) (sum_by-cons (λ y. cond (sort y) 1 0) x xs) ∙ ap (λ n. before + (n + count_by sort xs)) o
+-- as many declarations of a sort behind this one, where it is counted
+behind_one : (sort : Decl → Bool) (x : Decl) (xs : List Decl) (before all : ℕ) → all ≡ before + count_by sort (x ∷ xs)
+    → all ≡ cond (sort x) (before + 1) before + count_by sort xs
+behind_one sort x xs before all e = by_test (sort x) (e ∙ ap (λ n. before + n) (sum_by-cons (λ y. cond (sort y) 1 0) x xs)) where
+  by_test : (t : Bool) → all ≡ before + (cond t 1 0 + count_by sort xs) → all ≡ cond t (before + 1) before + count_by sort xs
+  by_test true e = omega arith
+  by_test false e = omega arith
 
 abbrev with_declared : Counts → ℕ → ℕ → ℕ → Counts
 with_declared c i n m = record c { inputs = i; registers = n; memories = m }
@@ -385,12 +372,9 @@ declarations_within version (d.Input place x width ∷ xs) h c rest i n m e f g 
     let u = and_parts (is_name version x.name && is_number width.value) (list_all (is_declaration version) xs) h in
     let v = and_parts (is_name version x.name) (is_number width.value) u.0 in
     let c' : Counts = with_declared c (c.inputs + 1) c.registers c.memories in
-    let all_inputs : i ≡ c.inputs + (1 + count_by is_input xs) = one_counted is_input (d.Input place x width) xs c.inputs i 1 refl e in
-    let all_registers : n ≡ c.registers + (0 + count_by is_register xs) = one_counted is_register (d.Input place x width) xs c.registers n 0 refl f in
-    let all_memories : m ≡ c.memories + (0 + count_by is_memory xs) = one_counted is_memory (d.Input place x width) xs c.memories m 0 refl g in
-    let inputs_left : i ≡ c.inputs + 1 + count_by is_input xs = omega arith in
-    let registers_left : n ≡ c.registers + count_by is_register xs = omega arith in
-    let memories_left : m ≡ c.memories + count_by is_memory xs = omega arith in (
+    let inputs_left : i ≡ c.inputs + 1 + count_by is_input xs = behind_one is_input (d.Input place x width) xs c.inputs i e in
+    let registers_left : n ≡ c.registers + count_by is_register xs = behind_one is_register (d.Input place x width) xs c.registers n f in
+    let memories_left : m ≡ c.memories + count_by is_memory xs = behind_one is_memory (d.Input place x width) xs c.memories m g in (
       not_above most_inputs (c.inputs + 1) l.Inputs (omega arith),
       declared_within version x.name width.value v.0 c' (sign r.Plain s.Semicolon ∷ line ∷ declarations xs rest)
           (plain_free (k.Sign s.Semicolon) refl, (declarations_within version xs u.1 c' rest i n m inputs_left registers_left memories_left p q o a)),
@@ -401,12 +385,9 @@ declarations_within version (d.Register place x width y initial ∷ xs) h c rest
     (and_parts (is_name version x.name && is_number width.value && is_kind version y) (is_start initial) u.0).0 in
     let z = and_parts (is_name version x.name) (is_number width.value) v.0 in
     let c' : Counts = with_declared c c.inputs (c.registers + 1) c.memories in
-    let all_inputs : i ≡ c.inputs + (0 + count_by is_input xs) = one_counted is_input (d.Register place x width y initial) xs c.inputs i 0 refl e in
-    let all_registers : n ≡ c.registers + (1 + count_by is_register xs) = one_counted is_register (d.Register place x width y initial) xs c.registers n 1 refl f in
-    let all_memories : m ≡ c.memories + (0 + count_by is_memory xs) = one_counted is_memory (d.Register place x width y initial) xs c.memories m 0 refl g in
-    let inputs_left : i ≡ c.inputs + count_by is_input xs = omega arith in
-    let registers_left : n ≡ c.registers + 1 + count_by is_register xs = omega arith in
-    let memories_left : m ≡ c.memories + count_by is_memory xs = omega arith in
+    let inputs_left : i ≡ c.inputs + count_by is_input xs = behind_one is_input (d.Register place x width y initial) xs c.inputs i e in
+    let registers_left : n ≡ c.registers + 1 + count_by is_register xs = behind_one is_register (d.Register place x width y initial) xs c.registers n f in
+    let memories_left : m ≡ c.memories + count_by is_memory xs = behind_one is_memory (d.Register place x width y initial) xs c.memories m g in
     let last = sign r.Plain s.Semicolon ∷ line ∷ declarations xs rest in (
       not_above most_registers (c.registers + 1) l.Registers (omega arith),
       declared_within version x.name width.value z.0 c' (space ∷ kind y (start initial last))
@@ -421,12 +402,9 @@ declarations_within version (d.Memory place x width depth y ∷ xs) h c rest i n
     let v = and_parts (is_name version x.name && is_number width.value && is_number depth.value) (is_kind version y) u.0 in
     let z = and_parts (is_name version x.name) (is_number width.value) (and_parts (is_name version x.name && is_number width.value) (is_number depth.value) v.0).0 in
     let c' : Counts = with_declared c c.inputs c.registers (c.memories + 1) in
-    let all_inputs : i ≡ c.inputs + (0 + count_by is_input xs) = one_counted is_input (d.Memory place x width depth y) xs c.inputs i 0 refl e in
-    let all_registers : n ≡ c.registers + (0 + count_by is_register xs) = one_counted is_register (d.Memory place x width depth y) xs c.registers n 0 refl f in
-    let all_memories : m ≡ c.memories + (1 + count_by is_memory xs) = one_counted is_memory (d.Memory place x width depth y) xs c.memories m 1 refl g in
-    let inputs_left : i ≡ c.inputs + count_by is_input xs = omega arith in
-    let registers_left : n ≡ c.registers + count_by is_register xs = omega arith in
-    let memories_left : m ≡ c.memories + 1 + count_by is_memory xs = omega arith in
+    let inputs_left : i ≡ c.inputs + count_by is_input xs = behind_one is_input (d.Memory place x width depth y) xs c.inputs i e in
+    let registers_left : n ≡ c.registers + count_by is_register xs = behind_one is_register (d.Memory place x width depth y) xs c.registers n f in
+    let memories_left : m ≡ c.memories + 1 + count_by is_memory xs = behind_one is_memory (d.Memory place x width depth y) xs c.memories m g in
     let last = sign r.Plain s.Semicolon ∷ line ∷ declarations xs rest in (
       not_above most_memories (c.memories + 1) l.Memories (omega arith),
       declared_within version x.name width.value z.0 c' (sign r.Plain s.OpenBracket ∷ number r.Plain depth.value ∷ sign r.Plain s.CloseBracket ∷ space ∷ kind y last) (
@@ -533,8 +511,5 @@ design_within x h =
     (leb-true (states_count x.states) most_states l3.1) (zero_more (states_commands x.states)) (leb-true (states_commands x.states) most_commands l1.1)
     (one_more (states_depth x.states) (leb-true (states_depth x.states) most_nesting l2.1)) (λ t b. tt) 0 0))
   where
-    zero_more : (n : ℕ) → n ≡ 0 + n
-    zero_more n = omega arith
-
     one_more : (n : ℕ) → n ≤ most_nesting → 1 + n ≤ most_nesting + 1
     one_more n h = omega arith
