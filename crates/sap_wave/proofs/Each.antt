@@ -9,7 +9,8 @@ use Rattle.sap_wave.specs.declared.fault.WaveCode.TheVariants.{Y1, Y2, Y3, Y4, Y
 use Rattle.sap_wave.specs.Prelude.{number, are_digits, identifier, number_spelled, bits_number, Form, timescale, scope, upscope, end_definitions, variable, block, change, form_text, is_id, is_formed, IsLine, OpenBlock, State, before_timescale, before_scope, declaring, before_end, before_blocks, in_block, is_for, is_first, is_full, blocks_of, width_at, number_now, IsVariable, IsKnown, IsChange, IsNextBlock, Takes, after, Reads, Ends, Misdeclared, other_id, no_width, no_name, again, Misplaced, unknown, not_later, other_width, IsIdle, IsWrong, Stands, no_form, wrong, StandsAtEnd, IsLeast, StopsFrom, IsFault, Wave, names_of, IsReading, EachWaveOrFault}
 use Rattle.sap_text.specs.Lines.{Line, lines_of}
 use Rattle.sap_wave.specs.declared.variable.Variable.{Variable}
-use Rattle.sap_wave.proofs.Forms.{one_form, is_no_space, are_digits_no_space, variable_formed, change_formed}
+use Rattle.sap_wave.proofs.Forms.{mark_of, one_form, is_no_space, are_digits_no_space, variable_formed, change_formed}
+use Rattle.sap_wave.proofs.Once.{Placed, not_misplaced, true_false}
 use Rattle.sap_wave.proofs.Telling.{so_is_reading}
 
 -- Which form a line has.
@@ -24,9 +25,6 @@ variable_in _ = timescale
 abbrev change_in : List (List ℕ) → Form
 change_in (d ∷ (i ∷ rest)) = change d i
 change_in _ = timescale
-
-abbrev mark_of : List ℕ → ℕ
-mark_of text = cond (nat_eq (get_or text 0 0) 36) (get_or text 1 0) (get_or text 0 0)
 
 -- what the line is, if it is of a form
 abbrev likely : (mark : ℕ) → List ℕ → Form
@@ -64,21 +62,15 @@ change_pieces d i h =
 
 likely_is : (f : Form) → is_formed f ≡ true → likely (mark_of (form_text f)) (form_text f) ≡ f
 likely_is timescale h = refl
-likely_is scope h = refl
-likely_is upscope h = refl
-likely_is end_definitions h = refl
 likely_is (variable w i n) h = variable_pieces w i n h
-likely_is (block n) h = refl
 likely_is (change d i) h = change_pieces d i h
+likely_is _ h = refl
 
 abbrev form_of : Line → Form
 form_of l = likely (mark_of l.text) l.text
 
 form_of_is : (l : Line) (f : Form) → IsLine l f → form_of l ≡ f
 form_of_is l f h = ap (λ z. likely (mark_of z) z) (sym h.text) ∙ likely_is f h.formed
-
-true_false : (b : Bool) → b ≡ true → b ≡ false → ⊥
-true_false b h k = cc
 
 pub line_form : (l : Line) → ((f : Form) × IsLine l f) ⊎ ((f : Form) → IsLine l f → ⊥)
 line_form l = by (cases_Bool l.ended) (cases_Bool (bytes_eq (form_text (form_of l)) l.text)) (cases_Bool (is_formed (form_of l))) where
@@ -131,11 +123,6 @@ some_or_not None m = inr (λ e. cc)
 some_or_not (Some k) m =
     elim (cases_eq k m) [ inl e ↦ inl (ap Some e) | inr d ↦ inr (λ e. d (some_same k m e)) ]
 
-record Placed (xs : List Variable) (o : OpenBlock) (digits id : List ℕ) : Type 0 where
-  known : IsKnown xs id
-  later : o.next ≤ number_spelled id
-  sized : length digits ≡ width_at xs (number_spelled id)
-
 placed_or_not : (xs : List Variable) (o : OpenBlock) (d i : List ℕ) → Placed xs o d i ⊎ Misplaced xs o d i
 placed_or_not xs o d i = by (known_or_not xs i) (cases_lt (number_spelled i) o.next) (cases_eq (length d) (width_at xs (number_spelled i))) where
   by : IsKnown xs i ⊎ (IsKnown xs i → ⊥) → (number_spelled i < o.next) ⊎ (o.next ≤ number_spelled i)
@@ -144,11 +131,6 @@ placed_or_not xs o d i = by (known_or_not xs i) (cases_lt (number_spelled i) o.n
   by (inl a) (inl b) c = inr (not_later a b)
   by (inl a) (inr b) (inr c) = inr (other_width a c)
   by (inl a) (inr b) (inl c) = inl (record { known = a; later = b; sized = c })
-
-not_misplaced : (xs : List Variable) (o : OpenBlock) (d i : List ℕ) → Placed xs o d i → Misplaced xs o d i → ⊥
-not_misplaced xs o d i h (unknown e) = e h.known
-not_misplaced xs o d i h (not_later k l) = let g = h.later in omega (arith, g, l)
-not_misplaced xs o d i h (other_width k e) = e h.sized
 
 changed_or_idle : (xs : List Variable) (o : OpenBlock) (d i : List ℕ) → Placed xs o d i → IsChange xs o d i ⊎ IsIdle xs o d i
 changed_or_idle xs o d i h = by (cases_Bool (is_first o)) (some_or_not (number_now o i) (bits_number d)) where
@@ -231,10 +213,7 @@ taken_or_wrong _ _ h = absurd (cc)
 
 pub one_least : (c : WaveCode) → 1 ≤ number c
 one_least Y1 = omega arith
-one_least Y2 = omega arith
-one_least Y3 = omega arith
-one_least Y4 = omega arith
-one_least Y5 = omega arith
+one_least _ = omega arith
 
 pub least_stands : (s : State) (l : Line) (f : Form) → IsLine l f → is_for s f ≡ true → (c : WaveCode) → IsLeast (IsWrong s f) c → IsLeast (Stands s l) c
 least_stands s l f h p c w = record { stands = wrong f h w.stands; least = below } where

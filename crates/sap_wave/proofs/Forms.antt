@@ -51,26 +51,8 @@ pub same_pieces : (xs ys r s : List ℕ) → list_all is_no_space xs ≡ true �
 same_pieces xs ys r s h k e = same_cut 32 xs ys r s h k e
 
 -- the byte that tells a form, the second of those that begin with `$`
-abbrev mark : Form → ℕ
-mark timescale = 116
-mark scope = 115
-mark upscope = 117
-mark end_definitions = 101
-mark (variable width id name) = 118
-mark (block n) = 35
-mark (change digits id) = 98
-
-abbrev mark_of : List ℕ → ℕ
+abbrev pub mark_of : List ℕ → ℕ
 mark_of text = cond (nat_eq (slice_index text 0) 36) (slice_index text 1) (slice_index text 0)
-
-mark_in_text : (f : Form) → mark_of (form_text f) ≡ mark f
-mark_in_text timescale = refl
-mark_in_text scope = refl
-mark_in_text upscope = refl
-mark_in_text end_definitions = refl
-mark_in_text (variable width id name) = refl
-mark_in_text (block n) = refl
-mark_in_text (change digits id) = refl
 
 pub variable_formed : (w i n : List ℕ) → is_formed (variable w i n) ≡ true → (list_all is_no_space w ≡ true) × (list_all is_no_space i ≡ true) × (list_all is_no_space n ≡ true)
 variable_formed w i n h =
@@ -88,12 +70,12 @@ same_variable w i n w' i' n' a b c = ap (λ (z : List ℕ). variable z i n) a �
 same_change : (d i d' i' : List ℕ) → d ≡ d' → i ≡ i' → change d i ≡ change d' i'
 same_change d i d' i' a b = ap (λ (z : List ℕ). change z i) a ∙ ap (λ (z : List ℕ). change d' z) b
 
-by_mark : (f g : Form) → mark f ≡ mark g → form_text f ≡ form_text g → is_formed f ≡ true → is_formed g ≡ true → f ≡ g
-by_mark timescale timescale m e h k = refl
-by_mark scope scope m e h k = refl
-by_mark upscope upscope m e h k = refl
-by_mark end_definitions end_definitions m e h k = refl
-by_mark (variable w i n) (variable w' i' n') m e h k =
+by_mark : (f g : Form) → form_text f ≡ form_text g → is_formed f ≡ true → is_formed g ≡ true → f ≡ g
+by_mark timescale timescale e h k = refl
+by_mark scope scope e h k = refl
+by_mark upscope upscope e h k = refl
+by_mark end_definitions end_definitions e h k = refl
+by_mark (variable w i n) (variable w' i' n') e h k =
     let p = variable_formed w i n h in
     let q = variable_formed w' i' n' k in
     let t = ap (λ (z : List ℕ). drop 9 z) e in
@@ -101,14 +83,14 @@ by_mark (variable w i n) (variable w' i' n') m e h k =
     let b = same_pieces i i' _ _ p.1 q.1 a.rest in
     let c = same_pieces n n' _ _ p.2 q.2 b.rest in
     same_variable w i n w' i' n' a.piece b.piece c.piece
-by_mark (block n) (block n') m e h k = ap (λ (z : List ℕ). block (drop 1 z)) e
-by_mark (change d i) (change d' i') m e h k =
+by_mark (block n) (block n') e h k = ap (λ (z : List ℕ). block (drop 1 z)) e
+by_mark (change d i) (change d' i') e h k =
     let t = ap (λ (z : List ℕ). drop 1 z) e in
     let a = same_pieces d d' i i' (change_formed d i h) (change_formed d' i' k) t in
     same_change d i d' i' a.piece a.rest
-by_mark _ _ m e h k = absurd (omega arith)
+by_mark _ _ e h k = absurd (omega (arith, ap mark_of e))
 
 pub one_form : {l : Line} {f g : Form} → IsLine l f → IsLine l g → f ≡ g
 one_form {l} {f} {g} h k =
     let e = h.text ∙ sym k.text in
-    by_mark f g (sym (mark_in_text f) ∙ ap mark_of e ∙ mark_in_text g) e h.formed k.formed
+    by_mark f g e h.formed k.formed

@@ -1,6 +1,6 @@
 -- Numbers that variables have or lack, and the lines that take them from some to others.
-use Rattle.sap_lemmas.proofs.Common.{◌≡◌, ℕ, zero, suc, ◌+◌, ◌<◌, ◌≤◌, ◌^◌, List, [], ◌∷◌, ◌++◌, true, Option, Some, None, length, map, get_or, set, refl, sym, ap, ◌∙◌, arith, append_assoc, inl, inr, ◌≢◌, ◌==◌, is_some, if◌then◌else◌, AllZip, list_all, and_parts, cases_Bool, nat_tests, equal_of_test}
-use Rattle.sap_wave.specs.Prelude.{Form, NumbersFit, set_to, all_set, changes, is_full, numbers_in, nothing, width_at}
+use Rattle.sap_lemmas.proofs.Common.{◌≡◌, ℕ, zero, suc, ◌+◌, ◌<◌, ◌≤◌, List, [], ◌∷◌, ◌++◌, true, Option, Some, None, length, map, get_or, set, refl, sym, ap, ◌∙◌, arith, append_assoc, inl, inr, ◌≢◌, ◌==◌, is_some, if◌then◌else◌, list_all, and_parts, cases_Bool, nat_tests, equal_of_test}
+use Rattle.sap_wave.specs.Prelude.{Form, set_to, all_set, changes, is_full, numbers_in, nothing}
 use Rattle.sap_wave.specs.declared.variable.Variable.{Variable}
 
 -- variable k goes from one number, or none, to another
@@ -89,34 +89,6 @@ pub none_lacks : (now : List (Option ℕ)) → is_full now ≡ true → now ≡ 
 none_lacks [] h = refl
 none_lacks (None ∷ now) h = absurd (cc)
 none_lacks (Some n ∷ now) h = ap (λ (z : List (Option ℕ)). Some n ∷ z) (none_lacks now (and_parts (is_some (Some n)) (list_all is_some now) h).1)
-
--- Numbers within the widths, where there are some.
-
-abbrev pub Fits : Variable → Option ℕ → Type 0
-Fits x None = Unit {0}
-Fits x (Some n) = n < 2 ^ x.width
-
-pub one_each : (xs : List Variable) (ns : List (Option ℕ)) → AllZip Fits xs ns → length ns ≡ length xs
-one_each [] [] f = refl
-one_each [] (n ∷ ns) f = absurd f
-one_each (x ∷ xs) [] f = absurd f
-one_each (x ∷ xs) (n ∷ ns) f = ap suc (one_each xs ns f.1)
-
-pub all_lack : (xs : List Variable) → AllZip Fits xs (map (λ x. None) xs)
-all_lack [] = tt
-all_lack (x ∷ xs) = (tt, all_lack xs)
-
-pub fits_set : (xs : List Variable) (ns : List (Option ℕ)) (p v : ℕ) → AllZip Fits xs ns → p < length xs → v < 2 ^ width_at xs p → AllZip Fits xs (set ns p (Some v))
-fits_set [] ns p v f l h = absurd (omega (arith, l))
-fits_set (x ∷ xs) [] p v f l h = absurd f
-fits_set (x ∷ xs) (n ∷ ns) zero v f l h = (h, f.1)
-fits_set (x ∷ xs) (n ∷ ns) (suc p) v f l h = (f.0, fits_set xs ns p v f.1 (omega (arith, l)) h)
-
-pub fits_all : (xs : List Variable) (ns : List ℕ) → AllZip Fits xs (map Some ns) → NumbersFit xs ns
-fits_all [] [] f = tt
-fits_all [] (n ∷ ns) f = absurd f
-fits_all (x ∷ xs) [] f = absurd f
-fits_all (x ∷ xs) (n ∷ ns) f = (f.0, fits_all xs ns f.1)
 
 pub none_there : (xs : List Variable) (j : ℕ) → get_or (map (λ x. let o : Option ℕ = None in o) xs) j None ≡ None
 none_there [] j = refl

@@ -1,8 +1,8 @@
 -- A text has at most one reading, at most one first fault, and not both.
-use Rattle.std.proofs.Common.{◌≡◌, ℕ, ◌+◌, List, [], ◌∷◌, Bool, true, false, refl, sym, ◌∙◌, arith, inl, inr, subst}
+use Rattle.std.proofs.Common.{◌≡◌, ℕ, ◌+◌, ◌≤◌, length, List, [], ◌∷◌, Bool, true, false, refl, sym, ◌∙◌, arith, inl, inr, subst}
 use Rattle.sap_wave.specs.declared.fault.WaveCode.{WaveCode}
 use Rattle.sap_wave.specs.declared.fault.WaveCode.TheVariants.{Y1, Y2, Y3, Y4, Y5}
-use Rattle.sap_wave.specs.Prelude.{number, Form, timescale, scope, upscope, end_definitions, variable, block, change, IsLine, OpenBlock, State, before_timescale, before_scope, declaring, before_end, before_blocks, in_block, is_for, Takes, after, Reads, Ends, IsVariable, IsChange, ReadsSo, Misdeclared, other_id, no_width, no_name, again, Misplaced, unknown, not_later, other_width, IsWrong, Stands, no_form, wrong, StandsAtEnd, IsLeast, StopsFrom, IsFault, Wave, OneWaveOrFault}
+use Rattle.sap_wave.specs.Prelude.{number, Form, timescale, scope, upscope, end_definitions, variable, block, change, IsLine, OpenBlock, State, before_timescale, before_scope, declaring, before_end, before_blocks, in_block, is_for, Takes, after, Reads, Ends, width_at, number_spelled, IsKnown, IsVariable, ReadsSo, Misdeclared, other_id, no_width, no_name, again, Misplaced, unknown, not_later, other_width, IsWrong, Stands, no_form, wrong, StandsAtEnd, IsLeast, StopsFrom, IsFault, Wave, OneWaveOrFault}
 use Rattle.sap_text.specs.Lines.{Line, lines_of}
 use Rattle.sap_wave.specs.declared.variable.Variable.{Variable}
 use Rattle.sap_wave.proofs.Forms.{one_form}
@@ -19,7 +19,7 @@ takes_is_for (in_block xs o) (block n) h = refl
 takes_is_for (in_block xs o) (change digits id) h = refl
 takes_is_for _ _ h = absurd h
 
-true_false : (b : Bool) → b ≡ true → b ≡ false → ⊥
+pub true_false : (b : Bool) → b ≡ true → b ≡ false → ⊥
 true_false b h k = cc
 
 declared_well : (xs : List Variable) (w i n : List ℕ) → IsVariable xs w i n → Misdeclared xs w i n → ⊥
@@ -28,17 +28,22 @@ declared_well xs w i n h (no_width e) = e h.sized
 declared_well xs w i n h (no_name e) = true_false _ h.named e
 declared_well xs w i n h (again e) = true_false _ e h.new
 
-placed_well : (xs : List Variable) (o : OpenBlock) (d i : List ℕ) → IsChange xs o d i → Misplaced xs o d i → ⊥
-placed_well xs o d i h (unknown e) = e h.known
-placed_well xs o d i h (not_later k l) = let g = h.later in omega (arith, g, l)
-placed_well xs o d i h (other_width k e) = e h.sized
+pub record Placed (xs : List Variable) (o : OpenBlock) (digits id : List ℕ) : Type 0 where
+  pub known : IsKnown xs id
+  pub later : o.next ≤ number_spelled id
+  pub sized : length digits ≡ width_at xs (number_spelled id)
+
+pub not_misplaced : (xs : List Variable) (o : OpenBlock) (d i : List ℕ) → Placed xs o d i → Misplaced xs o d i → ⊥
+not_misplaced xs o d i h (unknown e) = e h.known
+not_misplaced xs o d i h (not_later k l) = let g = h.later in omega (arith, g, l)
+not_misplaced xs o d i h (other_width k e) = e h.sized
 
 takes_not_wrong : (s : State) (f : Form) (c : WaveCode) → Takes s f → IsWrong s f c → ⊥
 takes_not_wrong (declaring xs) (variable width id name) Y2 h bad = declared_well xs width id name h bad
 takes_not_wrong (before_blocks xs) (block n) Y4 h bad = bad h
 takes_not_wrong (in_block xs o) (block n) Y4 h bad = bad h.in_turn
 takes_not_wrong (in_block xs o) (block n) Y5 h bad = true_false _ h.full bad
-takes_not_wrong (in_block xs o) (change digits id) Y3 h bad = placed_well xs o digits id h bad
+takes_not_wrong (in_block xs o) (change digits id) Y3 h bad = not_misplaced xs o digits id (record { known = h.known; later = h.later; sized = h.sized }) bad
 takes_not_wrong (in_block xs o) (change digits id) Y5 h bad = h.changes bad.later_block bad.same
 takes_not_wrong _ _ _ h bad = absurd bad
 

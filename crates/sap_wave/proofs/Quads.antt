@@ -47,16 +47,12 @@ quad_at q h =
 -- four bytes more are written over others
 pub four_set : (at : ℕ) (bytes : List ℕ) (a b c d : ℕ) → at + 4 ≤ length bytes
     → drop at (set (set (set (set bytes at a) (at + 1) b) (at + 2) c) (at + 3) d) ≡ a ∷ b ∷ c ∷ d ∷ drop (at + 4) bytes
-four_set zero [] a b c d h = absurd (omega (arith, h))
-four_set zero (x ∷ []) a b c d h = absurd (omega (arith, h))
-four_set zero (x ∷ y ∷ []) a b c d h = absurd (omega (arith, h))
-four_set zero (x ∷ y ∷ z ∷ []) a b c d h = absurd (omega (arith, h))
 four_set zero (x ∷ y ∷ z ∷ w ∷ bytes) a b c d h = refl
-four_set (suc at) [] a b c d h = absurd (omega (arith, h))
 four_set (suc at) (x ∷ bytes) a b c d h =
     let more = four_set at bytes a b c d (omega (arith, h)) in
     let plain = simp unary_clauses at more in
     simp unary_clauses plain
+four_set _ _ a b c d h = absurd (omega (arith, h))
 
 -- the digits
 

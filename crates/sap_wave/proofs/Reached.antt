@@ -126,10 +126,13 @@ too_early xs o d i k l e n = let s = number_is i k e in not_later (is_known xs i
 pub other_digits : (xs : List Variable) (o : OpenBlock) (d i : List ℕ) (k : ℕ) → k < length xs → i ≡ identifier k → (length d ≡ width_at xs k → ⊥) → Misplaced xs o d i
 other_digits xs o d i k l e against = other_width (is_known xs i k l e) (λ h. against (h ∙ ap (width_at xs) (number_is i k e)))
 
-pub few_digits : (xs : List Variable) (k : ℕ) → AllByRecursion (λ (x : Variable). IsWidth x.width) xs → k < length xs → width_at xs k ≤ 64
-few_digits [] k h l = absurd (omega arith)
-few_digits (x ∷ xs) zero h l = h.0.1
-few_digits (x ∷ xs) (suc k) h l = few_digits xs k h.1 (omega (arith, l))
+width_small : (xs : List Variable) (k : ℕ) → AllByRecursion (λ (x : Variable). IsWidth x.width) xs → k < length xs → width_at xs k ≤ 64
+width_small [] k h l = absurd (omega arith)
+width_small (x ∷ xs) zero h l = h.0.1
+width_small (x ∷ xs) (suc k) h l = width_small xs k h.1 (omega (arith, l))
+
+pub few_digits : (xs : List Variable) (k : ℕ) (d : List ℕ) → AllByRecursion (λ (x : Variable). IsWidth x.width) xs → k < length xs → length d ≡ width_at xs k → length d ≤ 64
+few_digits xs k d h l sized = omega (arith, width_small xs k h l, sized)
 
 -- The end.
 
@@ -141,9 +144,5 @@ lacks xs o h = record { stands = h; least = above } where
 
 -- before block 0 begins
 pub too_short : (s : Held) → ((xs : Vec Variable Global) (b : Block) → s ≡ held.InBlock xs b → ⊥) → IsLeast (StandsAtEnd (state_of s)) Y1
-too_short held.BeforeTimescale h = record { stands = tt; least = λ d k. one_least d }
-too_short held.BeforeScope h = record { stands = tt; least = λ d k. one_least d }
-too_short (held.Declaring xs places) h = record { stands = tt; least = λ d k. one_least d }
-too_short (held.BeforeEnd xs) h = record { stands = tt; least = λ d k. one_least d }
-too_short (held.BeforeBlocks xs) h = record { stands = tt; least = λ d k. one_least d }
 too_short (held.InBlock xs b) h = absurd (h xs b refl)
+too_short _ h = record { stands = tt; least = λ d k. one_least d }

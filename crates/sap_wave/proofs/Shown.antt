@@ -1,5 +1,5 @@
 -- The registers that ports show, one after another.
-use Rattle.sap_lemmas.proofs.Common.{◌≡◌, ℕ, zero, suc, ◌+◌, ◌<◌, List, [], ◌∷◌, ◌++◌, true, Option, Some, None, length, map, get_or, is_some, refl, sym, ap, ◌∙◌, arith, subst, inl, inr, unwrap_or, AllByRecursion, option_map, bytes_eq, cases_Bool, equal_of_bytes_eq}
+use Rattle.sap_lemmas.proofs.Common.{◌≡◌, ℕ, zero, suc, ◌<◌, List, [], ◌∷◌, ◌++◌, true, Option, Some, None, length, map, get_or, is_some, refl, sym, ap, ◌∙◌, arith, subst, inl, inr, unwrap_or, AllByRecursion, option_map, bytes_eq, cases_Bool, equal_of_bytes_eq}
 use Rattle.sap_maps.specs.Prelude.{Name, find}
 use Rattle.sap_net.specs.declared.parts.PortKind.TheVariants as kind
 use Rattle.sap_net.specs.Prelude.{Net, is_among, NameMap, Indexes, at_name, place_in, IsNetlist, shapes, width_of, initial_number, is_register}

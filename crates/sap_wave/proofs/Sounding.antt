@@ -17,7 +17,7 @@ distinct_push ns y h new = distinct_both ns (y ∷ []) h (refl, tt) other where
 none_yet : AreVariables []
 none_yet = record { named = tt; sized = tt; distinct = tt }
 
-one_more : (xs : List Variable) (w i n : List ℕ) → AreVariables xs → IsVariable xs w i n
+pub one_more : (xs : List Variable) (w i n : List ℕ) → AreVariables xs → IsVariable xs w i n
     → AreVariables (xs ++ (record { name = n; width = digits_value 10 w } ∷ []))
 one_more xs w i n a h =
     let v : Variable = record { name = n; width = digits_value 10 w } in
@@ -29,18 +29,18 @@ one_more xs w i n a h =
 
 -- Numbers.
 
-none_fit : (xs : List Variable) → SomeFit xs (map (λ x. None) xs)
+pub none_fit : (xs : List Variable) → SomeFit xs (map (λ x. None) xs)
 none_fit [] = tt
 none_fit (x ∷ xs) = (tt, none_fit xs)
 
-full_fit : (xs : List Variable) (now : List (Option ℕ)) → SomeFit xs now → is_full now ≡ true → NumbersFit xs (numbers_in now)
+pub full_fit : (xs : List Variable) (now : List (Option ℕ)) → SomeFit xs now → is_full now ≡ true → NumbersFit xs (numbers_in now)
 full_fit [] [] f h = tt
 full_fit [] (o ∷ now) f h = absurd f
 full_fit (x ∷ xs) [] f h = absurd f
 full_fit (x ∷ xs) (None ∷ now) f h = absurd (true_is_not_false (sym h))
 full_fit (x ∷ xs) (Some n ∷ now) f h = (f.0, full_fit xs now f.1 h)
 
-set_fits : (xs : List Variable) (now : List (Option ℕ)) (k n : ℕ) → SomeFit xs now → k < length xs → n < 2 ^ width_at xs k → SomeFit xs (set now k (Some n))
+pub set_fits : (xs : List Variable) (now : List (Option ℕ)) (k n : ℕ) → SomeFit xs now → k < length xs → n < 2 ^ width_at xs k → SomeFit xs (set now k (Some n))
 set_fits [] now k n f l b = absurd (omega arith)
 set_fits (x ∷ xs) [] k n f l b = absurd f
 set_fits (x ∷ xs) (o ∷ now) zero n f l b = (b, f.1)
@@ -52,7 +52,7 @@ one_each [] (o ∷ now) f = absurd f
 one_each (x ∷ xs) [] f = absurd f
 one_each (x ∷ xs) (o ∷ now) f = ap suc (one_each xs now f.1)
 
-bits_fit : (d : List ℕ) (w : ℕ) → list_all (is_digit 48 2) d ≡ true → length d ≡ w → bits_number d < 2 ^ w
+pub bits_fit : (d : List ℕ) (w : ℕ) → list_all (is_digit 48 2) d ≡ true → length d ≡ w → bits_number d < 2 ^ w
 unfolding bits_number
 bits_fit d w all e =
     let b = spelled_below 48 2 0 d all in

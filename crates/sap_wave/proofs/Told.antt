@@ -1,15 +1,13 @@
 -- What was read tells which lines there were.
-use Rattle.sap_lemmas.proofs.Common.{◌≡◌, ℕ, ◌+◌, ◌<◌, ◌≤◌, ◌^◌, List, [], ◌∷◌, ◌++◌, true, false, ◌&&◌, Option, Some, None, length, map, get_or, refl, sym, ap, ◌∙◌, arith, subst, append_assoc, ◌≢◌, AllByRecursion, AllZip, list_all, bytes_eq, digits_value, and_parts, nat_tests, append-nil, map-append, get_or-set_other, all_append, length_map, bytes_eq_symmetric}
-use Rattle.sap_maps.specs.Prelude.{Name, IsWidth}
-use Rattle.sap_net.specs.Names.{is_name, is_among, AreDistinct}
-use Rattle.sap_net.proofs.NamesLemmas.{apart_by_membership, distinct_both}
-use Rattle.sap_wave.specs.Prelude.{is_digit, are_digits, bits, bits_number, number_spelled, numeral, Form, timescale, scope, upscope, end_definitions, variable, block, change, is_formed, is_id, is_number, is_piece, AreVariables, NumbersFit, names_of, all_set, block_of, blocks_from, declaration, declarations, dump, head, last_among, set_to, OpenBlock, State, before_timescale, before_scope, declaring, before_end, before_blocks, in_block, is_first, is_full, numbers_in, blocks_of, nothing, width_at, IsVariable, IsChange, IsNextBlock, Takes, after, first_block, next_block, changed}
+use Rattle.sap_lemmas.proofs.Common.{◌≡◌, ℕ, ◌+◌, ◌≤◌, List, [], ◌∷◌, ◌++◌, true, false, ◌&&◌, Option, Some, None, length, map, get_or, refl, sym, ap, ◌∙◌, arith, subst, append_assoc, ◌≢◌, AllByRecursion, list_all, digits_value, and_parts, nat_tests, append-nil, get_or-set_other, all_append, length_map}
+use Rattle.sap_wave.specs.Prelude.{is_digit, are_digits, bits, bits_number, number_spelled, numeral, Form, timescale, scope, upscope, end_definitions, variable, block, change, is_formed, is_id, is_number, is_piece, AreVariables, NumbersFit, SomeFit, all_set, block_of, blocks_from, declaration, declarations, dump, head, last_among, set_to, OpenBlock, State, before_timescale, before_scope, declaring, before_end, before_blocks, in_block, is_first, is_full, numbers_in, blocks_of, nothing, width_at, IsVariable, IsChange, IsNextBlock, Takes, after, first_block, next_block, changed}
 use Rattle.sap_wave.specs.declared.variable.Variable.{Variable}
-use Rattle.sap_wave.proofs.DigitsLemmas.{bits_read_back, bits_number_below}
+use Rattle.sap_wave.proofs.DigitsLemmas.{bits_read_back}
 use Rattle.sap_wave.proofs.Formed.{number_spells}
 use Rattle.sap_wave.proofs.Lists.{one_more_of}
 use Rattle.sap_wave.proofs.Blocks.{blocks_more, last_more}
-use Rattle.sap_wave.proofs.Moves.{moves, no_moves, one_move, from_none, from_some, none_lacks, Fits, one_each, all_lack, fits_set, fits_all, none_there}
+use Rattle.sap_wave.proofs.Moves.{moves, no_moves, one_move, from_none, from_some, none_lacks, none_there}
+use Rattle.sap_wave.proofs.Sounding.{bits_fit, full_fit, none_fit, one_each, one_more, set_fits}
 
 -- the head as far as its declarations, and up to block 0
 abbrev pub declared : List Variable → List Form
@@ -41,7 +39,7 @@ pub record InBlock (xs : List Variable) (o : OpenBlock) (done : List Form) : Typ
   pub earlier : List Form
   pub begun : Begun xs o.before olds earlier
   pub forms : done ≡ earlier ++ (block (numeral (length o.before)) ∷ moves 0 xs olds o.now)
-  pub fits : AllZip Fits xs o.now
+  pub fits : SomeFit xs o.now
   pub as_many : length olds ≡ length xs
   pub behind : (j : ℕ) → o.next ≤ j → get_or o.now j None ≡ get_or olds j None
 
@@ -62,20 +60,6 @@ declarations_more k (y ∷ xs) x =
     let e : (k + 1) + length xs ≡ k + length (y ∷ xs) = omega arith in
     ap (λ (z : List Form). declaration k y ∷ z) (declarations_more (k + 1) xs x ∙ ap (λ (j : ℕ). declarations (k + 1) xs ++ (declaration j x ∷ [])) e)
 
-one_more_name : (xs : List Name) (y : Name) → AreDistinct xs → is_among y xs ≡ false → AreDistinct (xs ++ (y ∷ []))
-one_more_name xs y d new =
-    distinct_both xs (y ∷ []) d (refl, tt)
-    (λ n there. let apart : bytes_eq n y ≡ false = bytes_eq_symmetric n y ∙ apart_by_membership y n xs new there in rw apart refl)
-
-one_more_variable : (xs : List Variable) (x : Variable) → AreVariables xs → is_name x.name ≡ true → IsWidth x.width
-    → is_among x.name (names_of xs) ≡ false → AreVariables (xs ++ (x ∷ []))
-one_more_variable xs x h named sized new =
-    record {
-      named = all_append (λ v. is_name v.name ≡ true) xs (x ∷ []) h.named (named, tt);
-      sized = all_append (λ v. IsWidth v.width) xs (x ∷ []) h.sized (sized, tt);
-      distinct = subst AreDistinct (sym (map-append (λ (v : Variable). v.name) xs (x ∷ []))) (one_more_name (names_of xs) x.name h.distinct new);
-    }
-
 declares : (xs : List Variable) (w i n : List ℕ) (done : List Form) → is_formed (variable w i n) ≡ true → IsVariable xs w i n → Told (declaring xs) done
     → Told (after (declaring xs) (variable w i n)) (done ++ (variable w i n ∷ []))
 declares xs w i n done formed takes h =
@@ -86,7 +70,7 @@ declares xs w i n done formed takes h =
     ap (λ (z : List ℕ). variable z i n) (number_spells w number)
     ∙ ap (λ (z : List ℕ). variable (numeral (digits_value 10 w)) z n) takes.numbered
     ∙ ap (λ (k : ℕ). declaration k x) place in (
-      one_more_variable xs x h.0 takes.named takes.sized takes.new,
+      one_more xs w i n h.0 takes,
       ap (λ (z : List Form). z ++ (variable w i n ∷ [])) h.1
           ∙ ap (λ (z : Form). timescale ∷ (scope ∷ (declarations 0 xs ++ (z ∷ [])))) form
           ∙ ap (λ (z : List Form). timescale ∷ (scope ∷ z)) (sym (declarations_more 0 xs x)),
@@ -105,7 +89,7 @@ begins_blocks xs number done formed zero h =
           ap (λ (z : List Form). z ++ (block number ∷ [])) h
           ∙ ap (λ (z : List ℕ). opened xs ++ (block z ∷ [])) (number_spells number formed ∙ ap numeral zero)
           ∙ ap (λ (z : List Form). opened xs ++ (block (numeral 0) ∷ z)) (sym (no_moves 0 xs (nones xs) (nones xs) (λ j. refl)));
-      fits = all_lack xs;
+      fits = none_fit xs;
       as_many = length_map (λ (x : Variable). let o : Option ℕ = None in o) xs;
       behind = λ j l. refl;
     }
@@ -166,11 +150,11 @@ is_over xs o done h full = by h.begun where
   by : Begun xs o.before h.olds h.earlier → Whole xs (blocks_of o) (numbers_in o.now) done
   by (begins b e f) =
       first_is_over xs o.before (numbers_in o.now) h.olds o.now h.earlier done b e f (none_lacks o.now full)
-      (fits_all xs (numbers_in o.now) (subst (AllZip Fits xs) (none_lacks o.now full) h.fits))
+      (full_fit xs o.now h.fits full)
       h.forms
   by (goes_on last e w) =
       later_is_over xs o.before last (numbers_in o.now) h.olds o.now h.earlier done e w (none_lacks o.now full)
-      (fits_all xs (numbers_in o.now) (subst (AllZip Fits xs) (none_lacks o.now full) h.fits))
+      (full_fit xs o.now h.fits full)
       h.forms
 
 goes_to_next : (xs : List Variable) (o : OpenBlock) (number : List ℕ) (done : List Form) → is_number number ≡ true → IsNextBlock o number → InBlock xs o done
@@ -234,7 +218,7 @@ changes_one xs o digits id done formed takes h =
           ∙ append_assoc h.earlier (zero ∷ moves 0 xs h.olds o.now) (change digits id ∷ [])
           ∙ ap (λ (z : Form). h.earlier ++ (zero ∷ (moves 0 xs h.olds o.now ++ (z ∷ [])))) (changed_form xs o digits id formed takes)
           ∙ ap (λ (z : List Form). h.earlier ++ (zero ∷ z)) (sym moved);
-      fits = fits_set xs o.now p v h.fits takes.known.within (subst (λ (w : ℕ). v < 2 ^ w) takes.sized (bits_number_below digits all));
+      fits = set_fits xs o.now p v h.fits takes.known.within (bits_fit digits (width_at xs p) all takes.sized);
       as_many = h.as_many;
       behind = λ j l. get_or-set_other o.now p j (Some v) None (λ e. omega (arith, e, l)) ∙ h.behind j (let m = takes.later in omega (arith, l, m));
     }

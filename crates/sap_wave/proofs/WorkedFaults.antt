@@ -1,11 +1,11 @@
 -- What stands first in small texts.
-use Rattle.sap_lemmas.proofs.Common.{◌≡◌, ℕ, ◌+◌, ◌<◌, ◌≤◌, List, [], ◌∷◌, true, get_or, refl, sym, ap, arith, subst, inl, inr, codes, digits_value, true_is_not_false}
+use Rattle.sap_lemmas.proofs.Common.{◌≡◌, ℕ, ◌+◌, ◌<◌, ◌≤◌, List, [], ◌∷◌, true, get_or, refl, ap, arith, inl, inr, codes, digits_value, true_is_not_false}
 use Rattle.sap_maps.specs.Ranges.{IsWidth}
 use Rattle.sap_net.specs.Names.{is_name}
 use Rattle.sap_wave.specs.declared.fault.WaveCode.{WaveCode}
 use Rattle.sap_wave.specs.declared.fault.WaveCode.TheVariants.{Y1, Y2, Y3, Y5}
 use Rattle.sap_wave.specs.declared.variable.Variable.{Variable}
-use Rattle.sap_wave.specs.Prelude.{identifier, bits_number, number_spelled, Form, timescale, scope, upscope, end_definitions, variable, block, change, is_formed, OpenBlock, State, before_timescale, before_scope, declaring, before_end, before_blocks, in_block, changed, first_block, next_block, is_for, IsVariable, IsKnown, IsChange, IsNextBlock, Takes, after, other_id, unknown, IsIdle, IsLeast, IsWrong, StopsFrom, lines, one_variable, Nothing, NotEnded, NoBlock, OtherIdentifier, UnknownVariable, SameNumber, NoNumber}
+use Rattle.sap_wave.specs.Prelude.{identifier, bits_number, number_spelled, Form, timescale, scope, upscope, end_definitions, variable, block, change, is_formed, OpenBlock, State, before_timescale, before_scope, declaring, before_end, before_blocks, in_block, changed, first_block, next_block, is_for, IsVariable, IsKnown, IsChange, IsNextBlock, Takes, after, other_id, unknown, IsIdle, IsLeast, IsWrong, StopsFrom, Nothing, NotEnded, NoBlock, OtherIdentifier, UnknownVariable, SameNumber, NoNumber}
 use Rattle.sap_text.specs.Lines.{Line, lines_of}
 use Rattle.sap_wave.proofs.Each.{least_stands, one_least}
 use Rattle.sap_wave.proofs.Lined.{ended_line}
@@ -61,37 +61,29 @@ head_read rest line code more =
     (step 3 (declaring []) declared (from_fourth rest) line code refl is_variable
     (step 4 (declaring (one ∷ [])) upscope (from_fifth rest) line code refl tt (step 5 (before_end (one ∷ [])) end_definitions rest line code refl tt more))))
 
-no_block_lines : lines_of (one_variable []) ≡ with_head []
-unfolding lines_of
-no_block_lines = refl
-
 pub no_block : NoBlock
+unfolding lines_of
 no_block =
     record {
       stops =
-          subst (λ (ls : List Line). StopsFrom 1 before_timescale ls 6 Y1) (sym no_block_lines)
-          (head_read [] 6 Y1 (refl, record { stands = tt; least = λ d h. one_least d }));
+          head_read [] 6 Y1 (refl, record { stands = tt; least = λ d h. one_least d });
     }
 
 abbrev other : Form
 other = variable (codes "1") (codes "\"") (codes "v")
-
-other_lines : lines_of (lines (codes "$timescale 1ns $end" ∷ (codes "$scope module top $end" ∷ (codes "$var reg 1 \" v $end" ∷ [])))) ≡ ended_line timescale ∷ (ended_line scope ∷ (ended_line other ∷ []))
-unfolding lines_of
-other_lines = refl
 
 not_first : codes "\"" ≡ identifier 0 → ⊥
 unfolding identifier
 not_first e = let d : 34 ≡ 33 = ap (λ (z : List ℕ). get_or z 0 0) e in omega (arith, d)
 
 pub other_identifier : OtherIdentifier
+unfolding lines_of
 other_identifier =
     record {
       stops =
-          subst (λ (ls : List Line). StopsFrom 1 before_timescale ls 3 Y2) (sym other_lines)
-          (step 1 before_timescale timescale (ended_line scope ∷ (ended_line other ∷ [])) 3 Y2 refl tt
+          step 1 before_timescale timescale (ended_line scope ∷ (ended_line other ∷ [])) 3 Y2 refl tt
           (step 2 before_scope scope (ended_line other ∷ []) 3 Y2 refl tt
-          (stop 3 (declaring []) other [] Y2 refl refl (misdeclared [] (codes "1") (codes "\"") (codes "v") (other_id not_first)))));
+          (stop 3 (declaring []) other [] Y2 refl refl (misdeclared [] (codes "1") (codes "\"") (codes "v") (other_id not_first))));
     }
 
 abbrev block_0 : OpenBlock
@@ -100,35 +92,27 @@ block_0 = first_block (one ∷ [])
 abbrev unknown_change : List Line
 unknown_change = ended_line (change (codes "0") (codes "\"")) ∷ []
 
-unknown_lines : lines_of (one_variable (codes "#0" ∷ (codes "b0 \"" ∷ []))) ≡ with_head (ended_line (block (codes "0")) ∷ (ended_line (change (codes "0") (codes "\"")) ∷ []))
-unfolding lines_of
-unknown_lines = refl
-
 not_known : IsKnown (one ∷ []) (codes "\"") → ⊥
 unfolding number_spelled
 not_known k = let w : 1 < 1 = k.within in omega (arith, w)
 
 pub unknown_variable : UnknownVariable
+unfolding lines_of
 unknown_variable =
     record {
       stops =
-          subst (λ (ls : List Line). StopsFrom 1 before_timescale ls 7 Y3) (sym unknown_lines)
-          (head_read (ended_line (block (codes "0")) ∷ unknown_change) 7 Y3
+          head_read (ended_line (block (codes "0")) ∷ unknown_change) 7 Y3
           (step 6 (before_blocks (one ∷ [])) (block (codes "0")) unknown_change 7 Y3 refl refl
           (stop 7 (in_block (one ∷ []) block_0) (change (codes "0") (codes "\"")) [] Y3 refl refl
-          (misplaced (one ∷ []) block_0 (codes "0") (codes "\"") (unknown not_known)))));
+          (misplaced (one ∷ []) block_0 (codes "0") (codes "\"") (unknown not_known))));
     }
 
-no_number_lines : lines_of (one_variable (codes "#0" ∷ [])) ≡ with_head (ended_line (block (codes "0")) ∷ [])
-unfolding lines_of
-no_number_lines = refl
-
 pub no_number : NoNumber
+unfolding lines_of
 no_number =
     record {
       stops =
-          subst (λ (ls : List Line). StopsFrom 1 before_timescale ls 7 Y5) (sym no_number_lines)
-          (head_read (ended_line (block (codes "0")) ∷ []) 7 Y5 (step 6 (before_blocks (one ∷ [])) (block (codes "0")) [] 7 Y5 refl refl (refl, lacks (one ∷ []) block_0 refl)));
+          head_read (ended_line (block (codes "0")) ∷ []) 7 Y5 (step 6 (before_blocks (one ∷ [])) (block (codes "0")) [] 7 Y5 refl refl (refl, lacks (one ∷ []) block_0 refl));
     }
 
 abbrev from_ninth : List Line
@@ -139,11 +123,6 @@ from_eighth = ended_line (block (codes "1")) ∷ from_ninth
 
 abbrev from_seventh : List Line
 from_seventh = ended_line (change (codes "0") (codes "!")) ∷ from_eighth
-
-same_lines : lines_of (one_variable (codes "#0" ∷ (codes "b0 !" ∷ (codes "#1" ∷ (codes "b0 !" ∷ [])))))
-    ≡ with_head (ended_line (block (codes "0")) ∷ (ended_line (change (codes "0") (codes "!")) ∷ (ended_line (block (codes "1")) ∷ (ended_line (change (codes "0") (codes "!")) ∷ []))))
-unfolding lines_of
-same_lines = refl
 
 known : IsKnown (one ∷ []) (codes "!")
 unfolding identifier number_spelled
@@ -174,15 +153,15 @@ unfolding identifier
 is_placed = refl
 
 pub same_number : SameNumber
+unfolding lines_of
 same_number =
     record {
       stops =
-          subst (λ (ls : List Line). StopsFrom 1 before_timescale ls 9 Y5) (sym same_lines)
-          (head_read (ended_line (block (codes "0")) ∷ from_seventh) 9 Y5
+          head_read (ended_line (block (codes "0")) ∷ from_seventh) 9 Y5
           (step 6 (before_blocks (one ∷ [])) (block (codes "0")) from_seventh 9 Y5 refl refl
           (step 7 (in_block (one ∷ []) block_0) (change (codes "0") (codes "!")) from_eighth 9 Y5 refl first_change
           (step 8 (in_block (one ∷ []) set_0) (block (codes "1")) from_ninth 9 Y5 refl next
           (stop 9 (in_block (one ∷ []) block_1) (change (codes "0") (codes "!")) [] Y5 refl refl
           (idle (one ∷ []) block_1 (codes "0") (codes "!") is_idle
-          (well_placed (one ∷ []) block_1 (codes "0") (codes "!") 0 is_placed (omega arith) (omega arith) refl)))))));
+          (well_placed (one ∷ []) block_1 (codes "0") (codes "!") 0 is_placed (omega arith) (omega arith) refl))))));
     }

@@ -16,16 +16,10 @@ returns-in_default-clause-wrong c =
     misplaced c.args.variables.now (open_of c.args.reached.now) p.digits.now p.id.now c.in_default.ensures.none
 
 pub stands-requires : goal.stands-requires
-stands-requires c =
-    let each = one_each c.args.variables.now (now_of c.args.reached.now.numbers) c.requires.sound.1 in
-    let within = c.in-Some.ensures.some.within in
-    omega (arith, each, within)
+stands-requires c = omega (arith, one_each c.args.variables.now (now_of c.args.reached.now.numbers) c.requires.sound.1, c.in-Some.ensures.some.within)
 
 pub set-requires : goal.set-requires
-set-requires c =
-    let each = one_each c.args.variables.now (now_of c.args.reached.now.numbers) c.requires.sound.1 in
-    let within = c.in-Some.ensures.some.within in
-    omega (arith, each, within)
+set-requires c = omega (arith, one_each c.args.variables.now (now_of c.args.reached.now.numbers) c.requires.sound.1, c.in-Some.ensures.some.within)
 
 pub returns-then-stands-clause-wrong : goal.returns-then-stands-clause-wrong
 returns-then-stands-clause-wrong c =
@@ -34,9 +28,7 @@ returns-then-stands-clause-wrong c =
     let o = open_of c.args.reached.now in
     let k = c.in-Some.place in
     let s = c.in-Some.ensures.some in
-    let few = few_digits xs k c.requires.sound.0.sized s.within in
-    let sized = s.sized in
-    let is = c.requires.number (omega (arith, few, sized)) in
+    let is = c.requires.number (few_digits xs k p.digits.now c.requires.sound.0.sized s.within s.sized) in
     idle xs o p.digits.now p.id.now (idle_so xs o p.digits.now p.id.now k p.number s.is s.within is (sym c.stands.ensures ∙ c.if-stands.true))
     (well_placed xs o p.digits.now p.id.now k s.is s.within s.later s.sized)
 
@@ -47,9 +39,7 @@ returns-clause-right c =
     let o = open_of c.args.reached.now in
     let k = c.in-Some.place in
     let s = c.in-Some.ensures.some in
-    let few = few_digits xs k c.requires.sound.0.sized s.within in
-    let sized = s.sized in
-    let is = c.requires.number (omega (arith, few, sized)) in
+    let is = c.requires.number (few_digits xs k p.digits.now c.requires.sound.0.sized s.within s.sized) in
     changes_so xs o p.digits.now p.id.now k p.number s.is s.within s.later s.sized is (sym c.stands.ensures ∙ c.if-stands.false)
 
 pub returns-clause-after : goal.returns-clause-after
@@ -59,7 +49,5 @@ returns-clause-after c =
     let o = open_of c.args.reached.now in
     let k = c.in-Some.place in
     let s = c.in-Some.ensures.some in
-    let few = few_digits xs k c.requires.sound.0.sized s.within in
-    let sized = s.sized in
-    let is = c.requires.number (omega (arith, few, sized)) in
+    let is = c.requires.number (few_digits xs k p.digits.now c.requires.sound.0.sized s.within s.sized) in
     ap (in_block xs) (c.set.ensures ∙ number_so o p.digits.now p.id.now k p.number s.is is)

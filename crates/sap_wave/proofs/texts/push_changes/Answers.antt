@@ -1,7 +1,7 @@
 use Rattle.sap_lemmas.proofs.Common.{◌≡◌, ◌<◌, ◌+◌, ◌++◌, false, true, length, length-append, ap, ◌∙◌, sym, arith, ◌==◌, get_or, vec_capacity, nat_tests}
 use Rattle.sap_desk.proofs.Steps.{on_err}
 use Rattle.sap_text.specs.Places.{line}
-use Rattle.sap_wave.specs.Prelude.{form_text, text_of, changes, set_to}
+use Rattle.sap_wave.specs.Prelude.{form_text, set_to}
 use Rattle.sap_wave.proofs.WrittenLines.{changes_from, changes_more, no_change, full_more, grows}
 use Rattle.sap_wave.proofs.texts.push_changes.Goals as goal
 use Rattle.sap_wave.proofs.texts.push_changes.Goals.{then-before-k+in_ok-push_set, else-before-k}
@@ -19,9 +19,7 @@ returns-in_err-push_set-clause-full c =
     (line (form_text (set_to k c.index-variables-k.result (get_or ns k 0)))) (changes_from xs ms ns (k + 1)) (changes_from xs ms ns k)
     (vec_capacity c.loop-k.out) c.loop-k.invariant.text more c.in_err-push_set.ensures.full in
     let size = length-append c.args.out.now.items (changes_from xs ms ns 0) in
-    let p : vec_capacity c.args.out.now < length c.args.out.now.items + length (text_of (changes 0 c.args.variables.now c.args.before.now c.args.after.now)) =
-    omega (arith, full, size, c.loop-k.invariant.room) in
-    on_err c.from_residual.result p
+    on_err c.from_residual.result (omega (arith, full, size, c.loop-k.invariant.room))
 
 pub loop-k-preserved : goal.loop-k-preserved
 loop-k-preserved c =

@@ -5,30 +5,22 @@ use Rattle.sap_wave.proofs.block_list.BlockList.block.Goals as goal
 pub overflow_mul-start : goal.overflow_mul-start
 overflow_mul-start c =
     let b = c.args.self.now in
-    let within = part_within b.width b.count c.args.number b.numbers.items b.filled c.requires in
-    let read = ap length c.as_slice-numbers.ensures.value in
-    omega (arith, within, read, c.as_slice-numbers.type_inv)
+    omega (arith, part_within b.width b.count c.args.number b.numbers.items b.filled c.requires, ap length c.as_slice-numbers.ensures.value, c.as_slice-numbers.type_inv)
 
 pub overflow_add-result : goal.overflow_add-result
 overflow_add-result c =
     let b = c.args.self.now in
-    let within = part_within b.width b.count c.args.number b.numbers.items b.filled c.requires in
-    let read = ap length c.as_slice-numbers.ensures.value in
-    omega (arith, within, read, c.as_slice-numbers.type_inv)
+    omega (arith, part_within b.width b.count c.args.number b.numbers.items b.filled c.requires, ap length c.as_slice-numbers.ensures.value, c.as_slice-numbers.type_inv)
 
 pub offset_bounds-numbers-start : goal.offset_bounds-numbers-start
 offset_bounds-numbers-start c =
     let b = c.args.self.now in
-    let within = part_within b.width b.count c.args.number b.numbers.items b.filled c.requires in
-    let read = ap length c.as_slice-numbers.ensures.value in
-    omega (arith, within, read, c.as_slice-numbers.type_inv)
+    omega (arith, part_within b.width b.count c.args.number b.numbers.items b.filled c.requires, ap length c.as_slice-numbers.ensures.value, c.as_slice-numbers.type_inv)
 
 pub slice_bounds-result-end : goal.slice_bounds-result-end
 slice_bounds-result-end c =
     let b = c.args.self.now in
-    let within = part_within b.width b.count c.args.number b.numbers.items b.filled c.requires in
-    let read = ap length c.as_slice-numbers.ensures.value in
-    omega (arith, within, read)
+    omega (arith, part_within b.width b.count c.args.number b.numbers.items b.filled c.requires, ap length c.as_slice-numbers.ensures.value)
 
 pub returns : goal.returns
 returns c =
