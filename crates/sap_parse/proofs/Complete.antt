@@ -61,17 +61,7 @@ ends_above l (Some _) h = refl
 
 pub operator_ends : (o : BinaryOperator) (l : ℕ) → precedence o ≡ l → ends (l + 1) (Some (k.Sign (sign_of o))) ≡ true
 operator_ends b.Or l h = grind (arith, nat_tests)
-operator_ends b.Xor l h = grind (arith, nat_tests)
-operator_ends b.And l h = grind (arith, nat_tests)
-operator_ends b.Eq l h = grind (arith, nat_tests)
-operator_ends b.Ne l h = grind (arith, nat_tests)
-operator_ends b.Lt l h = grind (arith, nat_tests)
-operator_ends b.Le l h = grind (arith, nat_tests)
-operator_ends b.Shl l h = grind (arith, nat_tests)
-operator_ends b.Shr l h = grind (arith, nat_tests)
-operator_ends b.Add l h = grind (arith, nat_tests)
-operator_ends b.Sub l h = grind (arith, nat_tests)
-operator_ends b.Mul l h = grind (arith, nat_tests)
+operator_ends _ l h = grind (arith, nat_tests)
 
 pub no_bracket : (l : ℕ) (i : Option Kind) → ends l i ≡ true → i ≢ Some (k.Sign j.OpenBracket)
 no_bracket l i h e = let z : ends l (Some (k.Sign j.OpenBracket)) ≡ true = subst (λ x. ends l x ≡ true) e h in cc
@@ -98,41 +88,23 @@ skip_sign l x h = skip_level l (operator_of x) h
 skip_tail : (l : ℕ) (i : Kind) → ends l (Some i) ≡ true → s.tail_next l i ≡ empty_here
 skip_tail l (k.Sign x) h = skip_sign l x h
 skip_tail l (k.Word x) h = refl
-skip_tail l (k.Name x) h = refl
-skip_tail l (k.Number x) h = refl
-skip_tail l (k.Sized x n) h = refl
+skip_tail l _ h = refl
 
 skip_slices : (i : Kind) → i ≢ k.Sign j.OpenBracket → s.slices_next i ≡ empty_here
 skip_slices (k.Sign j.OpenBracket) ne = absurd (ne refl)
-skip_slices (k.Sign _) ne = refl
-skip_slices (k.Word x) ne = refl
-skip_slices (k.Name x) ne = refl
-skip_slices (k.Number x) ne = refl
-skip_slices (k.Sized x n) ne = refl
+skip_slices _ ne = refl
 
 skip_after_name : (i : Kind) → i ≢ k.Sign j.OpenBracket → s.after_name_next i ≡ empty_here
 skip_after_name (k.Sign j.OpenBracket) ne = absurd (ne refl)
-skip_after_name (k.Sign _) ne = refl
-skip_after_name (k.Word x) ne = refl
-skip_after_name (k.Name x) ne = refl
-skip_after_name (k.Number x) ne = refl
-skip_after_name (k.Sized x n) ne = refl
+skip_after_name _ ne = refl
 
 skip_choice : (i : Kind) → i ≢ k.Sign j.Question → s.choice_next i ≡ empty_here
 skip_choice (k.Sign j.Question) ne = absurd (ne refl)
-skip_choice (k.Sign _) ne = refl
-skip_choice (k.Word x) ne = refl
-skip_choice (k.Name x) ne = refl
-skip_choice (k.Number x) ne = refl
-skip_choice (k.Sized x n) ne = refl
+skip_choice _ ne = refl
 
 skip_parts : (i : Kind) → i ≢ k.Sign j.Comma → next s.parts i ≡ empty_here
 skip_parts (k.Sign j.Comma) ne = absurd (ne refl)
-skip_parts (k.Sign _) ne = refl
-skip_parts (k.Word x) ne = refl
-skip_parts (k.Name x) ne = refl
-skip_parts (k.Number x) ne = refl
-skip_parts (k.Sized x n) ne = refl
+skip_parts _ ne = refl
 
 -- the kind that is next is not this one
 pub not_kind : {i : Kind} (j : Kind) (p : Stage) → first_kind p ≢ Some j → first_kind p ≡ Some i → i ≢ j
@@ -143,17 +115,7 @@ not_kind j p ne e same = ne (e ∙ ap (λ x. Some x) same)
 operator_row : (o : BinaryOperator) → next (s.tail (precedence o)) (k.Sign (sign_of o))
     ≡ firsts (λ y. next y (k.Sign (sign_of o))) (s.sign r.Inner (sign_of o) ∷ s.bin (precedence o + 1) ∷ s.tail (precedence o) ∷ [])
 operator_row b.Or = refl
-operator_row b.Xor = refl
-operator_row b.And = refl
-operator_row b.Eq = refl
-operator_row b.Ne = refl
-operator_row b.Lt = refl
-operator_row b.Le = refl
-operator_row b.Shl = refl
-operator_row b.Shr = refl
-operator_row b.Add = refl
-operator_row b.Sub = refl
-operator_row b.Mul = refl
+operator_row _ = refl
 
 operator_row_at : (o : BinaryOperator) (l : ℕ) → precedence o ≡ l
     → next (s.tail l) (k.Sign (sign_of o)) ≡ firsts (λ y. next y (k.Sign (sign_of o))) (s.sign r.Inner (sign_of o) ∷ s.bin (l + 1) ∷ s.tail l ∷ [])
@@ -162,20 +124,13 @@ operator_row_at o l e = subst (λ n. next (s.tail n) (k.Sign (sign_of o))
 
 unary_row : (o : UnaryOperator) → next s.unary (k.Sign (unary_sign_of o)) ≡ firsts (λ y. next y (k.Sign (unary_sign_of o))) (s.sign r.Inner (unary_sign_of o) ∷ s.unary ∷ [])
 unary_row u.Not = refl
-unary_row u.Neg = refl
-unary_row u.AllOnes = refl
-unary_row u.AnyOne = refl
-unary_row u.Odd = refl
+unary_row _ = refl
 
 -- an index behind a name: it may begin with a number, but no `:` follows that
 
 row_after_number : (i : Kind) → i ≢ k.Sign j.Colon → next s.behind_number i ≡ firsts (λ y. next y i) index_symbols
 row_after_number (k.Sign j.Colon) ne = absurd (ne refl)
-row_after_number (k.Sign _) ne = refl
-row_after_number (k.Word x) ne = refl
-row_after_number (k.Name x) ne = refl
-row_after_number (k.Number x) ne = refl
-row_after_number (k.Sized x n) ne = refl
+row_after_number _ ne = refl
 
 row_push : (n m : Row) {role : Role} {ρ : List Symbol} (σ : List Symbol) → n ≡ begins role ρ → push n σ ≡ first_then n σ m
 row_push n m σ e = ap (λ x. push x σ) e ∙ sym (ap (λ x. first_then x σ m) e)
@@ -187,10 +142,7 @@ row_after_bracket : (i : Kind) {role : Role} {ρ : List Symbol} → ((n : ℕ) �
     → next s.behind_bracket i ≡ firsts (λ y. next y i) (s.expr ∷ close)
 unfolding close
 row_after_bracket (k.Number x) ne e = absurd (ne x refl)
-row_after_bracket (k.Sign x) ne e = row_push (next s.expr (k.Sign x)) (firsts (λ y. next y (k.Sign x)) close) close e
-row_after_bracket (k.Word x) ne e = row_push (next s.expr (k.Word x)) (firsts (λ y. next y (k.Word x)) close) close e
-row_after_bracket (k.Name x) ne e = row_push (next s.expr (k.Name x)) (firsts (λ y. next y (k.Name x)) close) close e
-row_after_bracket (k.Sized x n) ne e = row_push (next s.expr (k.Sized x n)) (firsts (λ y. next y (k.Sized x n)) close) close e
+row_after_bracket i ne e = row_push (next s.expr i) (firsts (λ y. next y i) close) close e
 
 -- behind the first operand of an expression
 behind : List Symbol
@@ -245,10 +197,7 @@ index_reads p q h e = let t = takes s.expr p q refl expr_full h in by_kind t.kin
 
   by_kind : {role : Role} {ρ : List Symbol} (i : Kind) → first_kind p ≡ Some i → next s.expr i ≡ begins role ρ → R s.behind_bracket p ≡ Rs close q
   by_kind (k.Number n) f row = let t = stands_here p r.Inner (k.Number n) f in number_index p t.0 q n t.1 h e
-  by_kind (k.Sign x) f row = not_number (k.Sign x) f row (λ n c. absurd (cc))
-  by_kind (k.Word x) f row = not_number (k.Word x) f row (λ n c. absurd (cc))
-  by_kind (k.Name x) f row = not_number (k.Name x) f row (λ n c. absurd (cc))
-  by_kind (k.Sized x y) f row = not_number (k.Sized x y) f row (λ n c. absurd (cc))
+  by_kind i f row = not_number i f row (λ n c. absurd (cc))
 
 -- the rules
 

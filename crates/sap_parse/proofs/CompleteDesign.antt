@@ -24,11 +24,7 @@ use Rattle.sap_walk.proofs.Walking.{bind_ok}
 
 skip_texprs : (i : Kind) → i ≢ k.Sign j.Comma → next s.texprs i ≡ empty_here
 skip_texprs (k.Sign j.Comma) ne = absurd (ne refl)
-skip_texprs (k.Sign _) ne = refl
-skip_texprs (k.Word x) ne = refl
-skip_texprs (k.Name x) ne = refl
-skip_texprs (k.Number x) ne = refl
-skip_texprs (k.Sized x n) ne = refl
+skip_texprs _ ne = refl
 
 mutual
   pub texpr_reads : {p q : Stage} {x : t.TagExpression} → g.Texpr p x q → R s.texpr p ≡ Ok q
@@ -138,18 +134,11 @@ cmds_not_else (g.cmd c more) h = cmd_not_else c
 skip_cmds : (d : ℕ) (i : Kind) → ends_cmds (Some i) ≡ true → next (s.cmds d) i ≡ empty_here
 skip_cmds d (k.Sign x) h = refl
 skip_cmds d (k.Word w.State) h = refl
-skip_cmds d (k.Word _) h = absurd (cc)
-skip_cmds d (k.Name x) h = absurd (cc)
-skip_cmds d (k.Number x) h = absurd (cc)
-skip_cmds d (k.Sized x n) h = absurd (cc)
+skip_cmds d _ h = absurd (cc)
 
 skip_else : (d : ℕ) (i : Kind) → i ≢ k.Word w.Else → next (s.else_part d) i ≡ empty_here
 skip_else d (k.Word w.Else) ne = absurd (ne refl)
-skip_else d (k.Word _) ne = refl
-skip_else d (k.Sign x) ne = refl
-skip_else d (k.Name x) ne = refl
-skip_else d (k.Number x) ne = refl
-skip_else d (k.Sized x n) ne = refl
+skip_else d _ ne = refl
 
 -- constants of a `case`
 
@@ -159,11 +148,7 @@ constant_reads (g.wide n) = at_token_of s.constant (s.sized r.Plain ∷ []) n re
 
 skip_constants : (i : Kind) → i ≢ k.Sign j.Comma → next s.constants i ≡ empty_here
 skip_constants (k.Sign j.Comma) ne = absurd (ne refl)
-skip_constants (k.Sign _) ne = refl
-skip_constants (k.Word x) ne = refl
-skip_constants (k.Name x) ne = refl
-skip_constants (k.Number x) ne = refl
-skip_constants (k.Sized x n) ne = refl
+skip_constants _ ne = refl
 
 pub constants_read : {p q : Stage} {xs : t.Expressions} → g.Constants p xs q → first_kind q ≢ Some (k.Sign j.Comma) → R s.constants p ≡ Ok q
 constants_read {p} g.no_constant ne = skipped s.constants p refl (λ i e. skip_constants i (not_kind (k.Sign j.Comma) p ne e))
@@ -229,19 +214,11 @@ mutual
 
 skip_authority : (i : Kind) → i ≢ k.Word w.Under → next s.authority i ≡ empty_here
 skip_authority (k.Word w.Under) ne = absurd (ne refl)
-skip_authority (k.Word _) ne = refl
-skip_authority (k.Sign x) ne = refl
-skip_authority (k.Name x) ne = refl
-skip_authority (k.Number x) ne = refl
-skip_authority (k.Sized x n) ne = refl
+skip_authority _ ne = refl
 
 skip_initial : (i : Kind) → i ≢ k.Sign j.Is → next s.initial i ≡ empty_here
 skip_initial (k.Sign j.Is) ne = absurd (ne refl)
-skip_initial (k.Sign _) ne = refl
-skip_initial (k.Word x) ne = refl
-skip_initial (k.Name x) ne = refl
-skip_initial (k.Number x) ne = refl
-skip_initial (k.Sized x n) ne = refl
+skip_initial _ ne = refl
 
 pub authority_reads : {p q : Stage} {x : Option Under} → g.Authority p x q → first_kind q ≢ Some (k.Word w.Under) → R s.authority p ≡ Ok q
 authority_reads {p} g.no_authority ne = skipped s.authority p refl (λ i e. skip_authority i (not_kind (k.Word w.Under) p ne e))
@@ -305,11 +282,7 @@ states_end_cmds (g.and_state x more) h = ap ends_cmds (state_first x)
 
 skip_states : (d : ℕ) (i : Kind) → i ≢ k.Word w.State → next (s.states d) i ≡ empty_here
 skip_states d (k.Word w.State) ne = absurd (ne refl)
-skip_states d (k.Word _) ne = refl
-skip_states d (k.Sign x) ne = refl
-skip_states d (k.Name x) ne = refl
-skip_states d (k.Number x) ne = refl
-skip_states d (k.Sized x n) ne = refl
+skip_states d _ ne = refl
 
 mutual
   pub state_reads : {d : ℕ} {p q : Stage} {x : t.StateTree} → g.State d p x q → R (s.state d) p ≡ Ok q
@@ -334,11 +307,7 @@ last_states_read {p} (g.and_state x more) e =
 
 skip_header : (i : Kind) → i ≢ k.Word w.Sapper → next s.header i ≡ empty_here
 skip_header (k.Word w.Sapper) ne = absurd (ne refl)
-skip_header (k.Word _) ne = refl
-skip_header (k.Sign x) ne = refl
-skip_header (k.Name x) ne = refl
-skip_header (k.Number x) ne = refl
-skip_header (k.Sized x n) ne = refl
+skip_header _ ne = refl
 
 pub header_reads : {p q : Stage} {v : Version} → g.Header p v q → first_kind q ≢ Some (k.Word w.Sapper) → R s.header p ≡ Ok q
 header_reads {p} g.no_header ne = skipped s.header p refl (λ i e. skip_header i (not_kind (k.Word w.Sapper) p ne e))

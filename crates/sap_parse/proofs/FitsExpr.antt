@@ -78,8 +78,7 @@ pub kind_true : (version : Version) (kind : Kind) → KindFact version kind → 
 kind_true version (k.Name name) h = h
 kind_true version (k.Number n) h = h
 kind_true version (k.Sized width n) h = all_true h.0 h.1
-kind_true version (k.Word word) h = refl
-kind_true version (k.Sign sign) h = refl
+kind_true version _ h = refl
 
 -- between these counts are tokens of an expression: what is tested of them; at least so many of them; and their brackets, so deep or deeper
 pub record Fits (is : Bool) (n l : ℕ) (c d : Counts) : Type 0 where

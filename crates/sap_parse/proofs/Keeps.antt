@@ -45,58 +45,18 @@ word_by n =
 word_back : (x : WordOf) → word_by (word_number x) ≡ x
 unfolding word_by
 word_back w.Input = refl
-word_back w.Reg = refl
-word_back w.Mem = refl
-word_back w.State = refl
-word_back w.Dynamic = refl
-word_back w.Enforced = refl
-word_back w.Under = refl
-word_back w.If = refl
-word_back w.Else = refl
-word_back w.Goto = refl
-word_back w.Fall = refl
-word_back w.SetTag = refl
-word_back w.Otherwise = refl
-word_back w.Tag = refl
-word_back w.Level = refl
-word_back w.Join = refl
-word_back w.Zext = refl
-word_back w.Then = refl
-word_back w.Case = refl
-word_back w.Sapper = refl
-word_back w.Two = refl
+word_back _ = refl
 
 word_same : (i x : WordOf) → eqb (word_number i) (word_number x) ≡ true → i ≡ x
 word_same i x e = sym (word_back i) ∙ ap word_by (eqb-true (word_number i) (word_number x) e) ∙ word_back x
 
 operator_sign : (x : SignOf) (o : BinaryOperator) → operator_of x ≡ Some o → x ≡ sign_of o
 operator_sign j.Bar o e = cc
-operator_sign j.Caret o e = cc
-operator_sign j.Ampersand o e = cc
-operator_sign j.Equal o e = cc
-operator_sign j.NotEqual o e = cc
-operator_sign j.Less o e = cc
-operator_sign j.LessOrEqual o e = cc
-operator_sign j.ShiftLeft o e = cc
-operator_sign j.ShiftRight o e = cc
-operator_sign j.Plus o e = cc
-operator_sign j.Minus o e = cc
-operator_sign j.Star o e = cc
-operator_sign _ o e = absurd (cc)
+operator_sign _ o e = cc
 
 precedence_small : (o : BinaryOperator) → precedence o + 1 ≤ unary_precedence
 precedence_small b.Or = omega arith
-precedence_small b.Xor = omega arith
-precedence_small b.And = omega arith
-precedence_small b.Eq = omega arith
-precedence_small b.Ne = omega arith
-precedence_small b.Lt = omega arith
-precedence_small b.Le = omega arith
-precedence_small b.Shl = omega arith
-precedence_small b.Shr = omega arith
-precedence_small b.Add = omega arith
-precedence_small b.Sub = omega arith
-precedence_small b.Mul = omega arith
+precedence_small _ = omega arith
 
 same_role : {role role' : Role} {σ σ' : List Symbol} → ◌≡◌ {A = Row} (begins role σ) (begins role' σ') → role ≡ role'
 same_role e = cc
@@ -118,16 +78,17 @@ module _ (token : Token) (ts : List Token) (past : Past Counts Limit) where
   abbrev pub Keeps : Row → (Stage → Type 0) → Type 0
   Keeps n P = (role : Role) (σ : List Symbol) → n ≡ begins role σ → (q : Stage) → Langs σ (behind role) q → P q
 
+  keeps_take : (role : Role) (τ : List Symbol) (P : Stage → Type 0) → ((q : Stage) → Langs τ (behind role) q → P q) → Keeps (begins role τ) P
+  keeps_take role τ P h = λ role' σ e q more.
+      h q (subst (λ x. Langs x (behind role) q) (sym (same_symbols e)) (subst (λ x. Langs σ (behind x) q) (sym (same_role e)) more))
+
   pub keeps_or : (n m : Row) (P : Stage → Type 0) → Keeps n P → Keeps m P → Keeps (n or m) P
   keeps_or (begins role σ) m P h g = h
   keeps_or empty_here m P h g = λ role σ e. absurd (cc)
   keeps_or cannot_stand m P h g = g
 
   pub keeps_push : (n : Row) (τ : List Symbol) (P Q : Stage → Type 0) → Keeps n P → ((m q : Stage) → P m → Langs τ m q → Q q) → Keeps (push n τ) Q
-  keeps_push (begins role ρ) τ P Q h g = λ role' σ e q more.
-      let all = subst (λ x. Langs x (behind role) q) (sym (same_symbols e)) (subst (λ x. Langs σ (behind x) q) (sym (same_role e)) more) in
-      let c = split W Lang ρ τ (behind role) q all in
-      g c.0 q (h role ρ refl c.0 c.1) c.2
+  keeps_push (begins role ρ) τ P Q h g = keeps_take role (ρ ++ τ) Q (λ q all. let c = split W Lang ρ τ (behind role) q all in g c.0 q (h role ρ refl c.0 c.1) c.2)
   keeps_push empty_here τ P Q h g = λ role σ e. absurd (cc)
   keeps_push cannot_stand τ P Q h g = λ role σ e. absurd (cc)
 
@@ -138,9 +99,7 @@ module _ (token : Token) (ts : List Token) (past : Past Counts Limit) where
 
   -- a row of a single token
   keeps_one : (role : Role) (P : Stage → Type 0) → P (behind role) → Keeps (begins role []) P
-  keeps_one role P h = λ role' σ e q more.
-      let all : Langs [] (behind role) q = subst (λ x. Langs x (behind role) q) (sym (same_symbols e)) (subst (λ x. Langs σ (behind x) q) (sym (same_role e)) more) in
-      subst P all h
+  keeps_one role P h = keeps_take role [] P (λ q all. subst P all h)
 
   keeps_same : (role : Role) (b : Bool) (P : Stage → Type 0) → (b ≡ true → P (behind role)) → Keeps (if_same role b) P
   keeps_same role true P h = keeps_one role P (h refl)
@@ -150,46 +109,31 @@ module _ (token : Token) (ts : List Token) (past : Past Counts Limit) where
   keeps_sign role x = by_kind token.kind refl where
     by_kind : (i : Kind) → token.kind ≡ i → Keeps (s.sign_next role x i) (λ q. IsSign here role x q)
     by_kind (k.Sign i) e = keeps_same role (eqb (sign_number i) (sign_number x)) (λ q. IsSign here role x q) (λ h. stands role (k.Sign x) (e ∙ ap k.Sign (sign_same i x h)))
-    by_kind (k.Word i) e = λ role' σ e. absurd (cc)
-    by_kind (k.Name i) e = λ role' σ e. absurd (cc)
-    by_kind (k.Number i) e = λ role' σ e. absurd (cc)
-    by_kind (k.Sized i n) e = λ role' σ e. absurd (cc)
+    by_kind _ e = λ role σ f. absurd (cc)
 
   pub keeps_word : (role : Role) (x : WordOf) → Keeps (s.word_next role x token.kind) (λ q. IsWord here role x q)
   keeps_word role x = by_kind token.kind refl where
     by_kind : (i : Kind) → token.kind ≡ i → Keeps (s.word_next role x i) (λ q. IsWord here role x q)
     by_kind (k.Word i) e = keeps_same role (eqb (word_number i) (word_number x)) (λ q. IsWord here role x q) (λ h. stands role (k.Word x) (e ∙ ap k.Word (word_same i x h)))
-    by_kind (k.Sign i) e = λ role' σ e. absurd (cc)
-    by_kind (k.Name i) e = λ role' σ e. absurd (cc)
-    by_kind (k.Number i) e = λ role' σ e. absurd (cc)
-    by_kind (k.Sized i n) e = λ role' σ e. absurd (cc)
+    by_kind _ e = λ role σ f. absurd (cc)
 
   pub keeps_name : (role : Role) → Keeps (s.name_next role token.kind) (λ q. (n : List ℕ) × IsName here role n q)
   keeps_name role = by_kind token.kind refl where
     by_kind : (i : Kind) → token.kind ≡ i → Keeps (s.name_next role i) (λ q. (n : List ℕ) × IsName here role n q)
     by_kind (k.Name n) e = keeps_one role _ (n, stands role (k.Name n) e)
-    by_kind (k.Sign i) e = λ role' σ e. absurd (cc)
-    by_kind (k.Word i) e = λ role' σ e. absurd (cc)
-    by_kind (k.Number i) e = λ role' σ e. absurd (cc)
-    by_kind (k.Sized i n) e = λ role' σ e. absurd (cc)
+    by_kind _ e = λ role σ f. absurd (cc)
 
   pub keeps_number : (role : Role) → Keeps (s.number_next role token.kind) (λ q. (n : ℕ) × IsNumber here role n q)
   keeps_number role = by_kind token.kind refl where
     by_kind : (i : Kind) → token.kind ≡ i → Keeps (s.number_next role i) (λ q. (n : ℕ) × IsNumber here role n q)
     by_kind (k.Number n) e = keeps_one role _ (n, stands role (k.Number n) e)
-    by_kind (k.Sign i) e = λ role' σ e. absurd (cc)
-    by_kind (k.Word i) e = λ role' σ e. absurd (cc)
-    by_kind (k.Name i) e = λ role' σ e. absurd (cc)
-    by_kind (k.Sized i n) e = λ role' σ e. absurd (cc)
+    by_kind _ e = λ role σ f. absurd (cc)
 
   pub keeps_sized : (role : Role) → Keeps (s.sized_next role token.kind) (λ q. (width n : ℕ) × IsSized here role width n q)
   keeps_sized role = by_kind token.kind refl where
     by_kind : (i : Kind) → token.kind ≡ i → Keeps (s.sized_next role i) (λ q. (width n : ℕ) × IsSized here role width n q)
     by_kind (k.Sized width n) e = keeps_one role _ (width, n, stands role (k.Sized width n) e)
-    by_kind (k.Sign i) e = λ role' σ e. absurd (cc)
-    by_kind (k.Word i) e = λ role' σ e. absurd (cc)
-    by_kind (k.Name i) e = λ role' σ e. absurd (cc)
-    by_kind (k.Number i) e = λ role' σ e. absurd (cc)
+    by_kind _ e = λ role σ f. absurd (cc)
 
   pub after_sign : (role : Role) (x : SignOf) (τ : List Symbol) (Q : Stage → Type 0)
       → ((m q : Stage) → IsSign here role x m → Langs τ m q → Q q) → Keeps (s.after_sign role x τ token.kind) Q
@@ -233,10 +177,6 @@ module _ (token : Token) (ts : List Token) (past : Past Counts Limit) where
   unfolding Element
   element row x h g = (h, g)
 
-  pub keeps_take : (role : Role) (τ : List Symbol) (P : Stage → Type 0) → ((q : Stage) → Langs τ (behind role) q → P q) → Keeps (begins role τ) P
-  keeps_take role τ P h = λ role' σ e q more.
-      h q (subst (λ x. Langs x (behind role) q) (sym (same_symbols e)) (subst (λ x. Langs σ (behind x) q) (sym (same_role e)) more))
-
   pub keeps_paren : Keeps (s.paren_next token.kind) (λ q. Lang s.paren here q)
   keeps_paren = after_sign r.Opening j.OpenParen _ _ (λ m q o more. (_, g.parentheses o more.1.1 (last (s.sign r.Closing j.CloseParen) more.0 q more.2)))
 
@@ -276,10 +216,7 @@ module _ (token : Token) (ts : List Token) (past : Past Counts Limit) where
 
     by_kind : (i : Kind) → token.kind ≡ i → Keeps (s.signed_next i) (λ q. Lang s.unary here q)
     by_kind (k.Sign x) e = by_sign x e
-    by_kind (k.Word i) e = λ role σ f. absurd (cc)
-    by_kind (k.Name i) e = λ role σ f. absurd (cc)
-    by_kind (k.Number i) e = λ role σ f. absurd (cc)
-    by_kind (k.Sized i n) e = λ role σ f. absurd (cc)
+    by_kind _ e = λ role σ f. absurd (cc)
 
   pub keeps_unary : Keeps (s.unary_next token.kind) (λ q. Lang s.unary here q)
   keeps_unary = keeps_or (s.signed_next token.kind) _ _ keeps_signed (λ role σ e q more. let x = keeps_post role σ e q more in (x.0, g.unsigned x.1))
@@ -318,10 +255,7 @@ module _ (token : Token) (ts : List Token) (past : Past Counts Limit) where
 
     by_kind : (i : Kind) → token.kind ≡ i → Keeps (s.tail_next l i) (λ q. Lang (s.tail l) here q)
     by_kind (k.Sign x) e = by_operator x e (operator_of x) refl
-    by_kind (k.Word i) e = λ role σ f. absurd (cc)
-    by_kind (k.Name i) e = λ role σ f. absurd (cc)
-    by_kind (k.Number i) e = λ role σ f. absurd (cc)
-    by_kind (k.Sized i n) e = λ role σ f. absurd (cc)
+    by_kind _ e = λ role σ f. absurd (cc)
 
   operands : Symbol → Row
   operands = s.operand_next token.kind

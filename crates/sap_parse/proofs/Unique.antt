@@ -1,11 +1,11 @@
 -- Tokens have at most one tree: expressions.
-use Rattle.std.proofs.Common.{◌≡◌, ◌≢◌, ◌+◌, ℕ, List, ◌∷◌, Option, Some, Ok, Bool, true, false, refl, sym, ap, subst, ◌∙◌, arith}
+use Rattle.std.proofs.Common.{◌≡◌, ◌≢◌, ◌+◌, ℕ, List, ◌∷◌, Option, Some, Ok, Bool, true, false, refl, sym, ap, ap₂, subst, ◌∙◌, arith}
 use Rattle.sap_tree.proofs.SyntaxLemmas.{and_part}
 use Rattle.sap_parse.proofs.ReadingLemmas.{ok_one}
 use Rattle.sap_parse.specs.Grammar as g
 use Rattle.sap_parse.specs.Grammar.{sign_of, unary_sign_of}
 use Rattle.sap_parse.specs.Limits.{Counts, tally, breach}
-use Rattle.sap_parse.specs.Stages.{Stage, IsToken, IsSign, here, spot_here}
+use Rattle.sap_parse.specs.Stages.{Stage, IsToken, IsSign, here}
 use Rattle.sap_parse.specs.Table as s
 use Rattle.sap_parse.specs.Table.{Symbol}
 use Rattle.sap_lex.specs.declared.limit.Limit.{Limit}
@@ -59,10 +59,10 @@ name_same e = cc
 pub number_same : {n m : ℕ} → k.Number n ≡ k.Number m → n ≡ m
 number_same e = cc
 
-width_same : {v w n m : ℕ} → k.Sized v n ≡ k.Sized w m → v ≡ w
+pub width_same : {v w n m : ℕ} → k.Sized v n ≡ k.Sized w m → v ≡ w
 width_same e = cc
 
-sized_same : {v w n m : ℕ} → k.Sized v n ≡ k.Sized w m → n ≡ m
+pub sized_same : {v w n m : ℕ} → k.Sized v n ≡ k.Sized w m → n ≡ m
 sized_same e = cc
 
 pub sign_same : {x y : SignOf} → k.Sign x ≡ k.Sign y → x ≡ y
@@ -85,17 +85,7 @@ operator_by x = b.Mul
 operator_back : (o : BinaryOperator) → operator_by (sign_of o) ≡ o
 unfolding operator_by
 operator_back b.Or = refl
-operator_back b.Xor = refl
-operator_back b.And = refl
-operator_back b.Eq = refl
-operator_back b.Ne = refl
-operator_back b.Lt = refl
-operator_back b.Le = refl
-operator_back b.Shl = refl
-operator_back b.Shr = refl
-operator_back b.Add = refl
-operator_back b.Sub = refl
-operator_back b.Mul = refl
+operator_back _ = refl
 
 operator_same : (o o' : BinaryOperator) → sign_of o ≡ sign_of o' → o ≡ o'
 operator_same o o' e = sym (operator_back o) ∙ ap operator_by e ∙ operator_back o'
@@ -110,10 +100,7 @@ unary_by x = u.Odd
 unary_back : (o : UnaryOperator) → unary_by (unary_sign_of o) ≡ o
 unfolding unary_by
 unary_back u.Not = refl
-unary_back u.Neg = refl
-unary_back u.AllOnes = refl
-unary_back u.AnyOne = refl
-unary_back u.Odd = refl
+unary_back _ = refl
 
 unary_same : (o o' : UnaryOperator) → unary_sign_of o ≡ unary_sign_of o' → o ≡ o'
 unary_same o o' e = sym (unary_back o) ∙ ap unary_by e ∙ unary_back o'
@@ -121,17 +108,7 @@ unary_same o o' e = sym (unary_back o) ∙ ap unary_by e ∙ unary_back o'
 -- no operator of the precedence is next where an expression of it ends
 at_own : (o : BinaryOperator) → ends (precedence o) (Some (k.Sign (sign_of o))) ≡ true → ⊥
 at_own b.Or e = cc
-at_own b.Xor e = cc
-at_own b.And e = cc
-at_own b.Eq e = cc
-at_own b.Ne e = cc
-at_own b.Lt e = cc
-at_own b.Le e = cc
-at_own b.Shl e = cc
-at_own b.Shr e = cc
-at_own b.Add e = cc
-at_own b.Sub e = cc
-at_own b.Mul e = cc
+at_own _ e = cc
 
 not_end : {l : ℕ} {p p' q : Stage} → p ≡ p' → (o : BinaryOperator) → precedence o ≡ l → IsSign p' r.Inner (sign_of o) q → ends l (first_kind p) ≡ true → ⊥
 not_end {l} {p} e o at sign h =
@@ -181,10 +158,7 @@ unary_kind i = false
 signed_kind : (o : UnaryOperator) → unary_kind (Some (k.Sign (unary_sign_of o))) ≡ true
 unfolding unary_kind
 signed_kind u.Not = refl
-signed_kind u.Neg = refl
-signed_kind u.AllOnes = refl
-signed_kind u.AnyOne = refl
-signed_kind u.Odd = refl
+signed_kind _ = refl
 
 prim_kind : {p q : Stage} {x : t.Expression} → g.Prim p x q → unary_kind (first_kind p) ≡ false
 unfolding unary_kind
@@ -203,17 +177,15 @@ not_signed e o sign h =
 
 -- equal parts make equal trees
 
-binary_same : {s s' : Spot} {o o' : BinaryOperator} {x x' y y' : t.Expression} → s ≡ s' → o ≡ o' → x ≡ x' → y ≡ y' → t.binary_of s o x y ≡ t.binary_of s' o' x' y'
-binary_same a b c d = cc
+pub ap₃ : {A B C D : Type 0} (f : A → B → C → D) {a a' : A} {b b' : B} {c c' : C} → a ≡ a' → b ≡ b' → c ≡ c' → f a b c ≡ f a' b' c'
+ap₃ f e h i = cc
 
-unary_tree : {s s' : Spot} {o o' : UnaryOperator} {x x' : t.Expression} → s ≡ s' → o ≡ o' → x ≡ x' → t.unary_of s o x ≡ t.unary_of s' o' x'
-unary_tree a b c = cc
+pub ap₄ : {A B C D E : Type 0} (f : A → B → C → D → E) {a a' : A} {b b' : B} {c c' : C} {d d' : D} → a ≡ a' → b ≡ b' → c ≡ c' → d ≡ d' → f a b c d ≡ f a' b' c' d'
+ap₄ f e h i l = cc
 
-choose_same : {s s' : Spot} {x x' y y' z z' : t.Expression} → s ≡ s' → x ≡ x' → y ≡ y' → z ≡ z' → t.choice s x y z ≡ t.choice s' x' y' z'
-choose_same a b c d = cc
-
-slice_same : {s s' : Spot} {x x' : t.Expression} {h h' l l' : ℕ} → s ≡ s' → x ≡ x' → h ≡ h' → l ≡ l' → t.slice s x h l ≡ t.slice s' x' h' l'
-slice_same a b c d = cc
+pub ap₅ : {A B C D E F : Type 0} (f : A → B → C → D → E → F) {a a' : A} {b b' : B} {c c' : C} {d d' : D} {e e' : E} → a ≡ a' → b ≡ b' → c ≡ c' → d ≡ d' → e ≡ e'
+    → f a b c d e ≡ f a' b' c' d' e'
+ap₅ f h i l m n = cc
 
 spot_same : {p p' q q' : Place} → p ≡ p' → q ≡ q' → ◌≡◌ {A = Spot} (record { first = p; at = q }) (record { first = p'; at = q' })
 spot_same a b = cc
@@ -226,28 +198,6 @@ spot_here_same e = spot_same (here_same e) (here_same e)
 
 joined_spot : {p p' : Stage} {x x' : t.Expression} → p ≡ p' → x ≡ x' → ◌≡◌ {A = Spot} (record { first = first_of x; at = here p }) (record { first = first_of x'; at = here p' })
 joined_spot e f = spot_same (ap first_of f) (here_same e)
-
-number_tree : {p p' : Stage} {n n' : ℕ} → p ≡ p' → n ≡ n' → t.literal (spot_here p) n ≡ t.literal (spot_here p') n'
-number_tree e f = let s = spot_here_same e in cc
-
-sized_tree : {p p' : Stage} {v v' n n' : ℕ} → p ≡ p' → v ≡ v' → n ≡ n' → t.sized_literal (spot_here p) v n ≡ t.sized_literal (spot_here p') v' n'
-sized_tree e f h = let s = spot_here_same e in cc
-
-read_tree : {p p' : Stage} {n n' : List ℕ} → p ≡ p' → n ≡ n' → t.variable (spot_here p) n ≡ t.variable (spot_here p') n'
-read_tree e f = let s = spot_here_same e in cc
-
-cell_tree : {p p' : Stage} {n n' : List ℕ} {x x' : t.Expression} → p ≡ p' → n ≡ n' → x ≡ x' → t.cell_at (spot_here p) n x ≡ t.cell_at (spot_here p') n' x'
-cell_tree e f h = let s = spot_here_same e in cc
-
-enclosed_tree : {p p' : Stage} {x x' : t.Expression} → p ≡ p' → x ≡ x' → enclosed (here p) x ≡ enclosed (here p') x'
-enclosed_tree e f = let s = here_same e in cc
-
-concat_tree : {p p' : Stage} {x x' y y' : t.Expression} {xs xs' : t.Expressions} → p ≡ p' → x ≡ x' → y ≡ y' → xs ≡ xs'
-    → t.concat (spot_here p) (t.and_part x (t.and_part y xs)) ≡ t.concat (spot_here p') (t.and_part x' (t.and_part y' xs'))
-concat_tree e f h i = let s = spot_here_same e in cc
-
-zext_tree : {p p' : Stage} {x x' : t.Expression} {n n' : ℕ} → p ≡ p' → x ≡ x' → n ≡ n' → t.zero_extend (spot_here p) x n ≡ t.zero_extend (spot_here p') x' n'
-zext_tree e f h = let s = spot_here_same e in cc
 
 -- behind a name no text is both slices and an index
 read_cell : {p p' q m o : Stage} {x y : t.Expression} → p ≡ p' → g.Cuts x p y q → IsSign p' r.Opening j.OpenBracket m → R s.expr m ≡ Ok o
@@ -272,7 +222,7 @@ cuts_one e f g.no_cut (g.cut b c) h h' = absurd (h (ap first_kind e ∙ bounds_f
 cuts_one e f (g.cut b c) g.no_cut h h' = absurd (h' (sym (ap first_kind e) ∙ bounds_first b))
 cuts_one e f (g.cut b c) (g.cut b' c') h h' =
     let n = bounds_one e b b' in
-    cuts_one (same_rest s.slice e (bounds_read b) (bounds_read b')) (slice_same (joined_spot e f) f n.0 n.1) c c' h h'
+    cuts_one (same_rest s.slice e (bounds_read b) (bounds_read b')) (ap₄ t.slice (joined_spot e f) f n.0 n.1) c c' h h'
 
 mutual
   pub expr_one : {p p' q q' : Stage} {x y : t.Expression} → p ≡ p' → g.Expr p x q → g.Expr p' y q' → ends_expr (first_kind q) ≡ true → ends_expr (first_kind q') ≡ true → x ≡ y
@@ -291,7 +241,7 @@ mutual
       let m4 = same_rest s.expr m3 (expr_reads y ey) (expr_reads y' ey') in
       let m5 = same_behind m4 c c' in
       let tree = bin_one e x x' ex ex' in
-      choose_same (joined_spot m2 tree) tree (expr_one m3 y y' ey ey') (expr_one m5 z z' h h')
+      ap₄ t.choice (joined_spot m2 tree) tree (expr_one m3 y y' ey ey') (expr_one m5 z z' h h')
 
   pub bin_one : {l : ℕ} {p p' q q' : Stage} {x y : t.Expression} → p ≡ p' → g.Bin l p x q → g.Bin l p' y q' → ends l (first_kind q) ≡ true → ends l (first_kind q') ≡ true → x ≡ y
   bin_one {q = q} {q' = q'} e (g.operand x) (g.operand x') h h' = unary_one e x x' (no_bracket unary_precedence (first_kind q) h) (no_bracket unary_precedence (first_kind q') h')
@@ -309,13 +259,13 @@ mutual
   others_one {l} e f (g.other o at sign y more) (g.other o' at' sign' y' more') h h' =
       let m = same_behind e sign sign' in
       let n = same_rest (s.bin (l + 1)) m (bin_reads y (others_end more h)) (bin_reads y' (others_end more' h')) in
-      others_one n (binary_same (joined_spot e f) (operator_same o o' (sign_same (same_token e sign sign'))) f
+      others_one n (ap₄ t.binary_of (joined_spot e f) (operator_same o o' (sign_same (same_token e sign sign'))) f
       (bin_one m y y' (others_end more h) (others_end more' h'))) more more' h h'
 
   unary_one : {p p' q q' : Stage} {x y : t.Expression} → p ≡ p' → g.Unary p x q → g.Unary p' y q'
       → first_kind q ≢ Some (k.Sign j.OpenBracket) → first_kind q' ≢ Some (k.Sign j.OpenBracket) → x ≡ y
   unary_one e (g.signed o sign x) (g.signed o' sign' x') h h' =
-      unary_tree (spot_here_same e) (unary_same o o' (sign_same (same_token e sign sign'))) (unary_one (same_behind e sign sign') x x' h h')
+      ap₃ t.unary_of (spot_here_same e) (unary_same o o' (sign_same (same_token e sign sign'))) (unary_one (same_behind e sign sign') x x' h h')
   unary_one e (g.signed o sign x) (g.unsigned (g.post x' c')) h h' = absurd (not_signed e o sign x')
   unary_one e (g.unsigned (g.post x c)) (g.signed o' sign' x') h h' = absurd (not_signed (sym e) o' sign' x)
   unary_one e (g.unsigned (g.post x c)) (g.unsigned (g.post x' c')) h h' = post_one e x c x' c' h h'
@@ -323,9 +273,11 @@ mutual
   -- an operand and slices of it
   post_one : {p p' m m' q q' : Stage} {x x' y y' : t.Expression} → p ≡ p' → g.Prim p x m → g.Cuts x m y q → g.Prim p' x' m' → g.Cuts x' m' y' q'
       → first_kind q ≢ Some (k.Sign j.OpenBracket) → first_kind q' ≢ Some (k.Sign j.OpenBracket) → y ≡ y'
-  post_one e (g.number n) c (g.number n') c' h h' = cuts_one (same_behind e n n') (number_tree e (number_same (same_token e n n'))) c c' h h'
-  post_one e (g.sized n) c (g.sized n') c' h h' = cuts_one (same_behind e n n') (sized_tree e (width_same (same_token e n n')) (sized_same (same_token e n n'))) c c' h h'
-  post_one e (g.read n) c (g.read n') c' h h' = cuts_one (same_behind e n n') (read_tree e (name_same (same_token e n n'))) c c' h h'
+  post_one e (g.number n) c (g.number n') c' h h' = cuts_one (same_behind e n n') (ap₂ t.literal (spot_here_same e) (number_same (same_token e n n'))) c c' h h'
+  post_one e (g.sized n) c (g.sized n') c' h h' =
+      let same = same_token e n n' in
+      cuts_one (same_behind e n n') (ap₃ t.sized_literal (spot_here_same e) (width_same same) (sized_same same)) c c' h h'
+  post_one e (g.read n) c (g.read n') c' h h' = cuts_one (same_behind e n n') (ap₂ t.variable (spot_here_same e) (name_same (same_token e n n'))) c c' h h'
   post_one e (g.read n) c (g.cell n' o x z) c' h h' = absurd (read_cell (same_behind e n n') c o (expr_reads x (ap ends_expr (first_is z))) (first_is z) h)
   post_one e (g.cell n o x z) c (g.read n') c' h h' = absurd (read_cell (sym (same_behind e n n')) c' o (expr_reads x (ap ends_expr (first_is z))) (first_is z) h')
   post_one e (g.cell n o x z) c (g.cell n' o' x' z') c' h h' =
@@ -333,12 +285,12 @@ mutual
       let m2 = same_behind e n n' in
       let m3 = same_behind m2 o o' in
       let m4 = same_rest s.expr m3 (expr_reads x ex) (expr_reads x' ex') in
-      cuts_one (same_behind m4 z z') (cell_tree e (name_same (same_token e n n')) (expr_one m3 x x' ex ex')) c c' h h'
+      cuts_one (same_behind m4 z z') (ap₃ t.cell_at (spot_here_same e) (name_same (same_token e n n')) (expr_one m3 x x' ex ex')) c c' h h'
   post_one e (g.parentheses o x z) c (g.parentheses o' x' z') c' h h' =
       let ex = ap ends_expr (first_is z) in let ex' = ap ends_expr (first_is z') in
       let m2 = same_behind e o o' in
       let m3 = same_rest s.expr m2 (expr_reads x ex) (expr_reads x' ex') in
-      cuts_one (same_behind m3 z z') (enclosed_tree e (expr_one m2 x x' ex ex')) c c' h h'
+      cuts_one (same_behind m3 z z') (ap₂ enclosed (here_same e) (expr_one m2 x x' ex ex')) c c' h h'
   post_one e (g.concat o x a y more z) c (g.concat o' x' a' y' more' z') c' h h' =
       let ex = ap ends_expr (first_is a) in let ex' = ap ends_expr (first_is a') in
       let ez = ap ends_expr (first_is z) in let ez' = ap ends_expr (first_is z') in
@@ -348,8 +300,8 @@ mutual
       let m5 = same_rest s.expr m4 (expr_reads y (parts_end more ez)) (expr_reads y' (parts_end more' ez')) in
       let m6 = same_rest s.parts m5 (parts_read more ez (λ e. let f = first_is z in absurd (cc))) (parts_read more' ez' (λ e. let f = first_is z' in absurd (cc))) in
       cuts_one (same_behind m6 z z')
-      (concat_tree e (expr_one m2 x x' ex ex') (expr_one m4 y y' (parts_end more ez) (parts_end more' ez'))
-      (parts_one m5 more more' ez ez' (λ e. let f = first_is z in absurd (cc)) (λ e. let f = first_is z' in absurd (cc))))
+      (ap₂ t.concat (spot_here_same e) (and_part (expr_one m2 x x' ex ex') (and_part (expr_one m4 y y' (parts_end more ez) (parts_end more' ez'))
+      (parts_one m5 more more' ez ez' (λ e. let f = first_is z in absurd (cc)) (λ e. let f = first_is z' in absurd (cc))))))
       c c' h h'
   post_one e (g.zext word o x a n z) c (g.zext word' o' x' a' n' z') c' h h' =
       let ex = ap ends_expr (first_is a) in let ex' = ap ends_expr (first_is a') in
@@ -358,7 +310,7 @@ mutual
       let m4 = same_rest s.expr m3 (expr_reads x ex) (expr_reads x' ex') in
       let m5 = same_behind m4 a a' in
       let m6 = same_behind m5 n n' in
-      cuts_one (same_behind m6 z z') (zext_tree e (expr_one m3 x x' ex ex') (number_same (same_token m5 n n'))) c c' h h'
+      cuts_one (same_behind m6 z z') (ap₃ t.zero_extend (spot_here_same e) (expr_one m3 x x' ex ex') (number_same (same_token m5 n n'))) c c' h h'
   post_one e a c b c' h h' = let t = same_tag e a b in absurd (cc)
 
   pub parts_one : {p p' q q' : Stage} {xs ys : t.Expressions} → p ≡ p' → g.Parts p xs q → g.Parts p' ys q' → ends_expr (first_kind q) ≡ true → ends_expr (first_kind q') ≡ true

@@ -1,27 +1,26 @@
 -- Tokens have at most one tree: tag expressions, commands, declarations, states and designs.
-use Rattle.std.proofs.Common.{◌≡◌, ◌≢◌, ◌+◌, ℕ, List, [], ◌∷◌, Option, Some, None, true, false, refl, sym, ap, ◌∙◌}
+use Rattle.std.proofs.Common.{◌≡◌, ◌≢◌, ◌+◌, ℕ, List, [], ◌∷◌, Option, Some, None, true, false, refl, sym, ap, ap₂, ◌∙◌}
 use Rattle.sap_tree.proofs.SyntaxLemmas.{and_part}
 use Rattle.sap_parse.specs.Grammar as g
-use Rattle.sap_parse.specs.Stages.{Stage, here, mention, numeral, spot_here}
+use Rattle.sap_parse.specs.Stages.{Stage, IsToken, here, mention, numeral}
 use Rattle.sap_parse.specs.Table as s
+use Rattle.sap_parse.specs.declared.role.Role.TheVariants as r
 use Rattle.sap_lex.specs.declared.token.Kind.TheVariants as k
 use Rattle.sap_lex.specs.declared.token.Kind.{Kind}
 use Rattle.sap_lex.specs.declared.token.Sign.TheVariants as j
 use Rattle.sap_tree.specs.declared.word.Word.TheVariants as w
 use Rattle.sap_tree.specs.Syntax as t
-use Rattle.sap_tree.specs.declared.name.Mention.{Mention}
 use Rattle.sap_tree.specs.declared.syntax.Decl.{Decl}
 use Rattle.sap_tree.specs.declared.syntax.Kind.{Kind as KindTree}
 use Rattle.sap_tree.specs.declared.syntax.Numeral.{Numeral}
 use Rattle.sap_tree.specs.declared.syntax.Under.{Under}
 use Rattle.sap_tree.specs.declared.version.Version.{Version}
-use Rattle.sap_text.specs.declared.place.Place.{Place}
 use Rattle.sap_tree.specs.declared.syntax.Decl.TheVariants as d
 use Rattle.sap_tree.specs.declared.syntax.Kind.TheVariants as kd
 use Rattle.sap_parse.proofs.Complete.{ends_expr, expr_reads}
 use Rattle.sap_parse.proofs.CompleteDesign.{arm_reads, block_reads, cmd_reads, constant_reads, constants_read, declarations_not_sapper, header_reads, cmds_not_else, cmds_read, declaration_reads, declarations_read, ends_cmds, initial_not_under, kind_reads, simple_reads, state_first, state_reads, states_end_cmds, texpr_reads}
 use Rattle.sap_parse.proofs.Known.{first_is, first_kind, kind_in}
-use Rattle.sap_parse.proofs.Unique.{expr_one, here_same, name_same, number_same, same_behind, same_rest, same_token}
+use Rattle.sap_parse.proofs.Unique.{ap₃, ap₄, ap₅, expr_one, here_same, name_same, number_same, same_behind, same_rest, same_token, sized_same, spot_here_same, width_same}
 
 mention_same : {p p' : Stage} {n n' : List ℕ} → p ≡ p' → n ≡ n' → mention p n ≡ mention p' n'
 mention_same e f = let h = here_same e in cc
@@ -49,35 +48,20 @@ some_same e = cc
 same_first : {p p' q q' : Stage} {x y : t.TagExpression} → p ≡ p' → (a : g.Texpr p x q) (b : g.Texpr p' y q') → tag_kind a ≡ tag_kind b
 same_first e a b = some_same (sym (tag_first a) ∙ ap first_kind e ∙ tag_first b)
 
-level_tree : {m m' : Mention} → m ≡ m' → t.level_of m ≡ t.level_of m'
-level_tree e = cc
-
-tag_of_tree : {p p' : Place} {x x' : t.Expression} → p ≡ p' → x ≡ x' → t.tag_at p x ≡ t.tag_at p' x'
-tag_of_tree e f = cc
-
-level_at_tree : {p p' : Place} {x x' : t.Expression} → p ≡ p' → x ≡ x' → t.level_at p x ≡ t.level_at p' x'
-level_at_tree e f = cc
-
-join_tree : {p p' : Place} {x x' y y' : t.TagExpression} {xs xs' : t.TagExpressions} → p ≡ p' → x ≡ x' → y ≡ y' → xs ≡ xs'
-    → t.join_of p (t.and_tag x (t.and_tag y xs)) ≡ t.join_of p' (t.and_tag x' (t.and_tag y' xs'))
-join_tree e f h i = cc
-
-and_tag : {x x' : t.TagExpression} {xs xs' : t.TagExpressions} → x ≡ x' → xs ≡ xs' → t.and_tag x xs ≡ t.and_tag x' xs'
-and_tag e f = cc
-
 mutual
   pub texpr_one : {p p' q q' : Stage} {x y : t.TagExpression} → p ≡ p' → g.Texpr p x q → g.Texpr p' y q' → x ≡ y
-  texpr_one e (g.level n) (g.level n') = level_tree (mention_same e (name_same (same_token e n n')))
+  texpr_one e (g.level n) (g.level n') = ap t.level_of (mention_same e (name_same (same_token e n n')))
   texpr_one e (g.tag_of word o x z) (g.tag_of word' o' x' z') =
-      tag_of_tree (here_same e) (expr_one (same_behind (same_behind e word word') o o') x x' (ap ends_expr (first_is z)) (ap ends_expr (first_is z')))
+      ap₂ t.tag_at (here_same e) (expr_one (same_behind (same_behind e word word') o o') x x' (ap ends_expr (first_is z)) (ap ends_expr (first_is z')))
   texpr_one e (g.level_at word o x z) (g.level_at word' o' x' z') =
-      level_at_tree (here_same e) (expr_one (same_behind (same_behind e word word') o o') x x' (ap ends_expr (first_is z)) (ap ends_expr (first_is z')))
+      ap₂ t.level_at (here_same e) (expr_one (same_behind (same_behind e word word') o o') x x' (ap ends_expr (first_is z)) (ap ends_expr (first_is z')))
   texpr_one e (g.join word o x c y more z) (g.join word' o' x' c' y' more' z') =
       let m3 = same_behind (same_behind e word word') o o' in
       let m5 = same_behind (same_rest s.texpr m3 (texpr_reads x) (texpr_reads x')) c c' in
       let m6 = same_rest s.texpr m5 (texpr_reads y) (texpr_reads y') in
-      join_tree (here_same e) (texpr_one m3 x x') (texpr_one m5 y y')
-      (texprs_one m6 more more' (λ e. let f = first_is z in absurd (cc)) (λ e. let f = first_is z' in absurd (cc)))
+      ap₂ t.join_of (here_same e)
+      (ap₂ t.and_tag (texpr_one m3 x x') (ap₂ t.and_tag (texpr_one m5 y y')
+      (texprs_one m6 more more' (λ e. let f = first_is z in absurd (cc)) (λ e. let f = first_is z' in absurd (cc)))))
   texpr_one e a b = let t = same_first e a b in absurd (cc)
 
   pub texprs_one : {p p' q q' : Stage} {xs ys : t.TagExpressions} → p ≡ p' → g.Texprs p xs q → g.Texprs p' ys q'
@@ -87,7 +71,7 @@ mutual
   texprs_one e (g.tag c x more) g.no_tag n n' = absurd (n' (sym (ap first_kind e) ∙ first_is c))
   texprs_one e (g.tag c x more) (g.tag c' x' more') n n' =
       let m2 = same_behind e c c' in
-      and_tag (texpr_one m2 x x') (texprs_one (same_rest s.texpr m2 (texpr_reads x) (texpr_reads x')) more more' n n')
+      ap₂ t.and_tag (texpr_one m2 x x') (texprs_one (same_rest s.texpr m2 (texpr_reads x) (texpr_reads x')) more more' n n')
 
 -- simple commands
 
@@ -110,36 +94,20 @@ simple_first (g.fall word) = first_is word
 simple_same : {depth : ℕ} {p p' q q' : Stage} {c c' : t.SimpleCommand} → p ≡ p' → (a : g.Simple depth p c q) (b : g.Simple depth p' c' q') → simple_kind a ≡ simple_kind b
 simple_same e a b = some_same (sym (simple_first a) ∙ ap first_kind e ∙ simple_first b)
 
-assign_tree : {m m' : Mention} {x x' : t.Expression} → m ≡ m' → x ≡ x' → t.assign m x ≡ t.assign m' x'
-assign_tree e f = cc
-
-write_tree : {m m' : Mention} {i i' x x' : t.Expression} → m ≡ m' → i ≡ i' → x ≡ x' → t.write m i x ≡ t.write m' i' x'
-write_tree e f h = cc
-
-set_tag_tree : {p p' : Place} {m m' : Mention} {x x' : t.TagExpression} → p ≡ p' → m ≡ m' → x ≡ x' → t.set_tag p m x ≡ t.set_tag p' m' x'
-set_tag_tree e f h = cc
-
-set_cell_tag_tree : {p p' : Place} {m m' : Mention} {i i' : t.Expression} {x x' : t.TagExpression} → p ≡ p' → m ≡ m' → i ≡ i' → x ≡ x'
-    → t.set_cell_tag p m i x ≡ t.set_cell_tag p' m' i' x'
-set_cell_tag_tree e f h i = cc
-
-goto_tree : {p p' : Place} {m m' : Mention} → p ≡ p' → m ≡ m' → t.go_to p m ≡ t.go_to p' m'
-goto_tree e f = cc
-
 pub simple_one : {depth : ℕ} {p p' q q' : Stage} {c c' : t.SimpleCommand} → p ≡ p' → g.Simple depth p c q → g.Simple depth p' c' q'
     → ends_expr (first_kind q) ≡ true → ends_expr (first_kind q') ≡ true → c ≡ c'
 simple_one e (g.assign n b x) (g.assign n' b' x') h h' =
-    assign_tree (mention_same e (name_same (same_token e n n'))) (expr_one (same_behind (same_behind e n n') b b') x x' h h')
+    ap₂ t.assign (mention_same e (name_same (same_token e n n'))) (expr_one (same_behind (same_behind e n n') b b') x x' h h')
 simple_one e (g.assign n b x) (g.write n' o' i' z' b' x') h h' = let t = same_token (same_behind e n n') b o' in absurd (cc)
 simple_one e (g.write n o i z b x) (g.assign n' b' x') h h' = let t = same_token (same_behind e n n') o b' in absurd (cc)
 simple_one e (g.write n o i z b x) (g.write n' o' i' z' b' x') h h' =
     let ez = ap ends_expr (first_is z) in let ez' = ap ends_expr (first_is z') in
     let m3 = same_behind (same_behind e n n') o o' in
     let m4 = same_rest s.expr m3 (expr_reads i ez) (expr_reads i' ez') in
-    write_tree (mention_same e (name_same (same_token e n n'))) (expr_one m3 i i' ez ez') (expr_one (same_behind (same_behind m4 z z') b b') x x' h h')
+    ap₃ t.write (mention_same e (name_same (same_token e n n'))) (expr_one m3 i i' ez ez') (expr_one (same_behind (same_behind m4 z z') b b') x x' h h')
 simple_one e (g.set_tag word o n c x z) (g.set_tag word' o' n' c' x' z') h h' =
     let m3 = same_behind (same_behind e word word') o o' in
-    set_tag_tree (here_same e) (mention_same m3 (name_same (same_token m3 n n'))) (texpr_one (same_behind (same_behind m3 n n') c c') x x')
+    ap₃ t.set_tag (here_same e) (mention_same m3 (name_same (same_token m3 n n'))) (texpr_one (same_behind (same_behind m3 n n') c c') x x')
 simple_one e (g.set_tag word o n c x z) (g.set_cell_tag word' o' n' b' i' e' c' x' z') h h' =
     let m3 = same_behind (same_behind e word word') o o' in
     let t = same_token (same_behind m3 n n') c b' in absurd (cc)
@@ -151,8 +119,8 @@ simple_one e (g.set_cell_tag word o n b i z c x y) (g.set_cell_tag word' o' n' b
     let m3 = same_behind (same_behind e word word') o o' in
     let m5 = same_behind (same_behind m3 n n') b b' in
     let m6 = same_rest s.expr m5 (expr_reads i ez) (expr_reads i' ez') in
-    set_cell_tag_tree (here_same e) (mention_same m3 (name_same (same_token m3 n n'))) (expr_one m5 i i' ez ez') (texpr_one (same_behind (same_behind m6 z z') c c') x x')
-simple_one e (g.goto word n) (g.goto word' n') h h' = let m2 = same_behind e word word' in goto_tree (here_same e) (mention_same m2 (name_same (same_token m2 n n')))
+    ap₄ t.set_cell_tag (here_same e) (mention_same m3 (name_same (same_token m3 n n'))) (expr_one m5 i i' ez ez') (texpr_one (same_behind (same_behind m6 z z') c c') x x')
+simple_one e (g.goto word n) (g.goto word' n') h h' = let m2 = same_behind e word word' in ap₂ t.go_to (here_same e) (mention_same m2 (name_same (same_token m2 n n')))
 simple_one e (g.fall word) (g.fall word') h h' = ap t.fall_to_child (here_same e)
 simple_one e a b h h' = let t = simple_same e a b in absurd (cc)
 
@@ -162,35 +130,21 @@ not_if : {depth : ℕ} {p p' q : Stage} {c : t.SimpleCommand} → p ≡ p' → g
 not_if e h f = by_kind h (some_same (sym (simple_first h) ∙ ap first_kind e ∙ f)) where
   by_kind : {depth : ℕ} {p q : Stage} {c : t.SimpleCommand} (h : g.Simple depth p c q) → simple_kind h ≡ k.Word w.If → ⊥
   by_kind (g.assign n b x) e = cc
-  by_kind (g.write n o i z b x) e = cc
-  by_kind (g.set_tag word o n c x z) e = cc
-  by_kind (g.set_cell_tag word o n b i z c x y) e = cc
-  by_kind (g.goto word n) e = cc
-  by_kind (g.fall word) e = cc
+  by_kind _ e = cc
 
 not_case : {depth : ℕ} {p p' q : Stage} {c : t.SimpleCommand} → p ≡ p' → g.Simple depth p c q → first_kind p' ≡ Some (k.Word w.Case) → ⊥
 not_case e h f = by_kind h (some_same (sym (simple_first h) ∙ ap first_kind e ∙ f)) where
   by_kind : {depth : ℕ} {p q : Stage} {c : t.SimpleCommand} (h : g.Simple depth p c q) → simple_kind h ≡ k.Word w.Case → ⊥
   by_kind (g.assign n b x) e = cc
-  by_kind (g.write n o i z b x) e = cc
-  by_kind (g.set_tag word o n c x z) e = cc
-  by_kind (g.set_cell_tag word o n b i z c x y) e = cc
-  by_kind (g.goto word n) e = cc
-  by_kind (g.fall word) e = cc
+  by_kind _ e = cc
 
 -- constants of a `case`
 
-number_tree : {p p' : Stage} {n n' : ℕ} → p ≡ p' → k.Number n ≡ k.Number n' → t.literal (spot_here p) n ≡ t.literal (spot_here p') n'
-number_tree e f = let h = here_same e in cc
-
-sized_tree : {p p' : Stage} {u u' n n' : ℕ} → p ≡ p' → k.Sized u n ≡ k.Sized u' n' → t.sized_literal (spot_here p) u n ≡ t.sized_literal (spot_here p') u' n'
-sized_tree e f = let h = here_same e in cc
-
 constant_one : {p p' q q' : Stage} {x x' : t.Expression} → p ≡ p' → g.Constant p x q → g.Constant p' x' q' → x ≡ x'
-constant_one e (g.plain n) (g.plain n') = number_tree e (same_token e n n')
+constant_one e (g.plain n) (g.plain n') = ap₂ t.literal (spot_here_same e) (number_same (same_token e n n'))
 constant_one e (g.plain n) (g.wide n') = let t = same_token e n n' in absurd (cc)
 constant_one e (g.wide n) (g.plain n') = let t = same_token e n n' in absurd (cc)
-constant_one e (g.wide n) (g.wide n') = sized_tree e (same_token e n n')
+constant_one e (g.wide n) (g.wide n') = let same = same_token e n n' in ap₃ t.sized_literal (spot_here_same e) (width_same same) (sized_same same)
 
 constants_one : {p p' q q' : Stage} {xs ys : t.Expressions} → p ≡ p' → g.Constants p xs q → g.Constants p' ys q'
     → first_kind q ≢ Some (k.Sign j.Comma) → first_kind q' ≢ Some (k.Sign j.Comma) → xs ≡ ys
@@ -219,40 +173,20 @@ cmd_begins (g.case word o x z b first arms end) = ap ends_cmds (first_is word)
 no_begin : {depth : ℕ} {p p' q : Stage} {c : t.Command} → p ≡ p' → ends_cmds (first_kind p) ≡ true → g.Cmd depth p' c q → ⊥
 no_begin e h c = let t : true ≡ false = sym h ∙ ap (λ z. ends_cmds (first_kind z)) e ∙ cmd_begins c in cc
 
-try_tree : {c c' : t.SimpleCommand} {p p' : Place} {b b' : t.CommandBlock} → c ≡ c' → p ≡ p' → b ≡ b' → t.try c p b ≡ t.try c' p' b'
-try_tree e f h = cc
-
-try_then_tree : {c c' : t.SimpleCommand} {p p' : Place} {a a' b b' : t.CommandBlock} → c ≡ c' → p ≡ p' → a ≡ a' → b ≡ b' → t.try_then c p a b ≡ t.try_then c' p' a' b'
-try_then_tree e f h i = cc
-
-case_tree : {p p' : Place} {x x' : t.Expression} {arms arms' : t.Arms} → p ≡ p' → x ≡ x' → arms ≡ arms' → t.case_of p x arms ≡ t.case_of p' x' arms'
-case_tree e f h = cc
-
-arm_tree : {cs cs' : t.Expressions} {b b' : t.CommandBlock} {arms arms' : t.Arms} → cs ≡ cs' → b ≡ b' → arms ≡ arms' → t.and_arm cs b arms ≡ t.and_arm cs' b' arms'
-arm_tree e f h = cc
-
-if_tree : {p p' : Place} {x x' : t.Expression} {b b' : t.CommandBlock} {o o' : t.ElseBlock} → p ≡ p' → x ≡ x' → b ≡ b' → o ≡ o' → t.if_else p x b o ≡ t.if_else p' x' b' o'
-if_tree e f h i = cc
-
-commands_tree : {cs cs' : t.CommandList} {p p' : Place} → cs ≡ cs' → p ≡ p' → t.command_block cs p ≡ t.command_block cs' p'
-commands_tree e f = cc
-
-and_command : {c c' : t.Command} {cs cs' : t.CommandList} → c ≡ c' → cs ≡ cs' → t.and_command c cs ≡ t.and_command c' cs'
-and_command e f = cc
+-- a simple command ends at one stage
+simple_end : {depth : ℕ} {p p' q q' o o' : Stage} {c c' : t.SimpleCommand} {i j : Kind} → p ≡ p' → g.Simple depth p c q → g.Simple depth p' c' q'
+    → IsToken q r.Plain i o → IsToken q' r.Plain j o' → ends_expr (Some i) ≡ true → ends_expr (Some j) ≡ true → q ≡ q'
+simple_end {depth} e c c' z z' h h' = same_rest (s.simple depth) e (simple_reads c (ap ends_expr (first_is z) ∙ h)) (simple_reads c' (ap ends_expr (first_is z') ∙ h'))
 
 mutual
   pub cmd_one : {depth : ℕ} {p p' q q' : Stage} {c c' : t.Command} → p ≡ p' → g.Cmd depth p c q → g.Cmd depth p' c' q'
       → first_kind q ≢ Some (k.Word w.Else) → first_kind q' ≢ Some (k.Word w.Else) → c ≡ c'
   cmd_one e (g.unhandled c z) (g.unhandled c' z') n n' = ap t.lone (simple_one e c c' (ap ends_expr (first_is z)) (ap ends_expr (first_is z')))
-  cmd_one {depth} e (g.unhandled c z) (g.handled c' word' h') n n' =
-      let m = same_rest (s.simple depth) e (simple_reads c (ap ends_expr (first_is z))) (simple_reads c' (ap ends_expr (first_is word'))) in
-      let t = same_token m z word' in absurd (cc)
-  cmd_one {depth} e (g.handled c word h) (g.unhandled c' z') n n' =
-      let m = same_rest (s.simple depth) e (simple_reads c (ap ends_expr (first_is word))) (simple_reads c' (ap ends_expr (first_is z'))) in
-      let t = same_token m word z' in absurd (cc)
-  cmd_one {depth} e (g.handled c word h) (g.handled c' word' h') n n' =
-      let m = same_rest (s.simple depth) e (simple_reads c (ap ends_expr (first_is word))) (simple_reads c' (ap ends_expr (first_is word'))) in
-      try_tree (simple_one e c c' (ap ends_expr (first_is word)) (ap ends_expr (first_is word'))) (here_same m) (block_one (same_behind m word word') h h')
+  cmd_one e (g.unhandled c z) (g.handled c' word' h') n n' = let t = same_token (simple_end e c c' z word' refl refl) z word' in absurd (cc)
+  cmd_one e (g.handled c word h) (g.unhandled c' z') n n' = let t = same_token (simple_end e c c' word z' refl refl) word z' in absurd (cc)
+  cmd_one e (g.handled c word h) (g.handled c' word' h') n n' =
+      let m = simple_end e c c' word word' refl refl in
+      ap₃ t.try (simple_one e c c' (ap ends_expr (first_is word)) (ap ends_expr (first_is word'))) (here_same m) (block_one (same_behind m word word') h h')
   cmd_one e (g.unhandled c z) (g.branch word' o' x' z' one' other') n n' = absurd (not_if e c (first_is word'))
   cmd_one e (g.handled c word h) (g.branch word' o' x' z' one' other') n n' = absurd (not_if e c (first_is word'))
   cmd_one e (g.branch word o x z one other) (g.unhandled c' z') n n' = absurd (not_if (sym e) c' (first_is word))
@@ -262,24 +196,16 @@ mutual
       let m3 = same_behind (same_behind e word word') o o' in
       let m5 = same_behind (same_rest s.expr m3 (expr_reads x ez) (expr_reads x' ez')) z z' in
       let m6 = same_rest (s.block (depth + 1)) m5 (block_reads one) (block_reads one') in
-      if_tree (here_same e) (expr_one m3 x x' ez ez') (block_one m5 one one') (else_one m6 other other' n n')
-  cmd_one {depth} e (g.unhandled c z) (g.decided c' word' a' o' b') n n' =
-      let m = same_rest (s.simple depth) e (simple_reads c (ap ends_expr (first_is z))) (simple_reads c' (ap ends_expr (first_is word'))) in
-      let t = same_token m z word' in absurd (cc)
-  cmd_one {depth} e (g.handled c word h) (g.decided c' word' a' o' b') n n' =
-      let m = same_rest (s.simple depth) e (simple_reads c (ap ends_expr (first_is word))) (simple_reads c' (ap ends_expr (first_is word'))) in
-      let t = same_token m word word' in absurd (cc)
-  cmd_one {depth} e (g.decided c word a o b) (g.unhandled c' z') n n' =
-      let m = same_rest (s.simple depth) e (simple_reads c (ap ends_expr (first_is word))) (simple_reads c' (ap ends_expr (first_is z'))) in
-      let t = same_token m word z' in absurd (cc)
-  cmd_one {depth} e (g.decided c word a o b) (g.handled c' word' h') n n' =
-      let m = same_rest (s.simple depth) e (simple_reads c (ap ends_expr (first_is word))) (simple_reads c' (ap ends_expr (first_is word'))) in
-      let t = same_token m word word' in absurd (cc)
+      ap₄ t.if_else (here_same e) (expr_one m3 x x' ez ez') (block_one m5 one one') (else_one m6 other other' n n')
+  cmd_one e (g.unhandled c z) (g.decided c' word' a' o' b') n n' = let t = same_token (simple_end e c c' z word' refl refl) z word' in absurd (cc)
+  cmd_one e (g.handled c word h) (g.decided c' word' a' o' b') n n' = let t = same_token (simple_end e c c' word word' refl refl) word word' in absurd (cc)
+  cmd_one e (g.decided c word a o b) (g.unhandled c' z') n n' = let t = same_token (simple_end e c c' word z' refl refl) word z' in absurd (cc)
+  cmd_one e (g.decided c word a o b) (g.handled c' word' h') n n' = let t = same_token (simple_end e c c' word word' refl refl) word word' in absurd (cc)
   cmd_one {depth} e (g.decided c word a o b) (g.decided c' word' a' o' b') n n' =
-      let m = same_rest (s.simple depth) e (simple_reads c (ap ends_expr (first_is word))) (simple_reads c' (ap ends_expr (first_is word'))) in
+      let m = simple_end e c c' word word' refl refl in
       let m1 = same_behind m word word' in
       let m2 = same_rest (s.block (depth + 1)) m1 (block_reads a) (block_reads a') in
-      try_then_tree (simple_one e c c' (ap ends_expr (first_is word)) (ap ends_expr (first_is word'))) (here_same m) (block_one m1 a a') (block_one (same_behind m2 o o') b b')
+      ap₄ t.try_then (simple_one e c c' (ap ends_expr (first_is word)) (ap ends_expr (first_is word'))) (here_same m) (block_one m1 a a') (block_one (same_behind m2 o o') b b')
   cmd_one e (g.decided c word a o b) (g.branch word' o' x' z' one' other') n n' = absurd (not_if e c (first_is word'))
   cmd_one e (g.branch word o x z one other) (g.decided c' word' a' o' b') n n' = absurd (not_if (sym e) c' (first_is word))
   cmd_one e (g.unhandled c z) (g.case word' o' x' z' b' first' arms' end') n n' = absurd (not_case e c (first_is word'))
@@ -297,7 +223,7 @@ mutual
       let m6 = same_behind m5 b b' in
       let m7 = same_rest (s.arm (depth + 1)) m6 (arm_reads first) (arm_reads first') in
       let one = arm_one m6 first first' in
-      case_tree (here_same e) (expr_one m3 x x' ez ez') (arm_tree one.0 one.1 (arms_one m7 arms arms'))
+      ap₃ t.case_of (here_same e) (expr_one m3 x x' ez ez') (ap₃ t.and_arm one.0 one.1 (arms_one m7 arms arms'))
 
   arm_one : {depth : ℕ} {p p' q q' : Stage} {cs cs' : t.Expressions} {h h' : t.CommandBlock} → p ≡ p' → g.Arm depth p cs h q → g.Arm depth p' cs' h' q' → (cs ≡ cs') × (h ≡ h')
   arm_one e (g.arm x xs z h) (g.arm x' xs' z' h') =
@@ -316,7 +242,7 @@ mutual
   arms_one {depth} e (g.and_arm a more) (g.and_arm a' more') =
       let m2 = same_rest (s.arm depth) e (arm_reads a) (arm_reads a') in
       let one = arm_one e a a' in
-      arm_tree one.0 one.1 (arms_one m2 more more')
+      ap₃ t.and_arm one.0 one.1 (arms_one m2 more more')
 
   pub else_one : {depth : ℕ} {p p' q q' : Stage} {x x' : t.ElseBlock} → p ≡ p' → g.Else depth p x q → g.Else depth p' x' q'
       → first_kind q ≢ Some (k.Word w.Else) → first_kind q' ≢ Some (k.Word w.Else) → x ≡ x'
@@ -329,7 +255,7 @@ mutual
   block_one {depth} e (g.block o cs z) (g.block o' cs' z') =
       let m2 = same_behind e o o' in
       let ez = ap ends_cmds (first_is z) in let ez' = ap ends_cmds (first_is z') in
-      commands_tree (cmds_one m2 cs cs' ez ez') (here_same (same_rest (s.cmds depth) m2 (cmds_read cs ez) (cmds_read cs' ez')))
+      ap₂ t.command_block (cmds_one m2 cs cs' ez ez') (here_same (same_rest (s.cmds depth) m2 (cmds_read cs ez) (cmds_read cs' ez')))
 
   pub cmds_one : {depth : ℕ} {p p' q q' : Stage} {cs cs' : t.CommandList} → p ≡ p' → g.Cmds depth p cs q → g.Cmds depth p' cs' q'
       → ends_cmds (first_kind q) ≡ true → ends_cmds (first_kind q') ≡ true → cs ≡ cs'
@@ -338,7 +264,7 @@ mutual
   cmds_one e (g.cmd c more) g.no_cmd h h' = absurd (no_begin (sym e) h' c)
   cmds_one {depth} e (g.cmd c more) (g.cmd c' more') h h' =
       let n = cmds_not_else more h in let n' = cmds_not_else more' h' in
-      and_command (cmd_one e c c' n n') (cmds_one (same_rest (s.cmd depth) e (cmd_reads c n) (cmd_reads c' n')) more more' h h')
+      ap₂ t.and_command (cmd_one e c c' n n') (cmds_one (same_rest (s.cmd depth) e (cmd_reads c n) (cmd_reads c' n')) more more' h h')
 
 -- kinds and declarations
 
@@ -353,9 +279,6 @@ authority_one e g.no_authority (g.authority word m) n n' = absurd (n (ap first_k
 authority_one e (g.authority word m) g.no_authority n n' = absurd (n' (sym (ap first_kind e) ∙ first_is word))
 authority_one e (g.authority word m) (g.authority word' m') n n' = let b = same_behind e word word' in under_same e b (name_same (same_token b m m'))
 
-enforced_tree : {m m' : Mention} {u u' : Option Under} → m ≡ m' → u ≡ u' → kd.Enforced m u ≡ kd.Enforced m' u'
-enforced_tree e f = cc
-
 pub kind_one : {p p' q q' : Stage} {x x' : KindTree} → p ≡ p' → g.KindOf p x q → g.KindOf p' x' q' → first_kind q ≢ Some (k.Word w.Under)
     → first_kind q' ≢ Some (k.Word w.Under) → x ≡ x'
 kind_one e (g.dynamic word) (g.dynamic word') n n' = ap kd.Dynamic (here_same e)
@@ -363,7 +286,7 @@ kind_one e (g.dynamic word) (g.enforced word' m' u') n n' = let t = same_token e
 kind_one e (g.enforced word m u) (g.dynamic word') n n' = let t = same_token e word word' in absurd (cc)
 kind_one e (g.enforced word m u) (g.enforced word' m' u') n n' =
     let b = same_behind e word word' in
-    enforced_tree (mention_same b (name_same (same_token b m m'))) (authority_one (same_behind b m m') u u' n n')
+    ap₂ kd.Enforced (mention_same b (name_same (same_token b m m'))) (authority_one (same_behind b m m') u u' n n')
 
 initial_one : {p p' q q' : Stage} {x x' : Option Numeral} → p ≡ p' → g.Initial p x q → g.Initial p' x' q'
     → first_kind q ≢ Some (k.Sign j.Is) → first_kind q' ≢ Some (k.Sign j.Is) → x ≡ x'
@@ -372,21 +295,11 @@ initial_one e g.no_initial (g.initial sign m) n n' = absurd (n (ap first_kind e 
 initial_one e (g.initial sign m) g.no_initial n n' = absurd (n' (sym (ap first_kind e) ∙ first_is sign))
 initial_one e (g.initial sign m) (g.initial sign' m') n n' = let b = same_behind e sign sign' in ap (λ x. Some x) (numeral_same b (number_same (same_token b m m')))
 
-input_tree : {p p' : Place} {m m' : Mention} {v v' : Numeral} → p ≡ p' → m ≡ m' → v ≡ v' → d.Input p m v ≡ d.Input p' m' v'
-input_tree e f h = cc
-
-register_tree : {p p' : Place} {m m' : Mention} {v v' : Numeral} {x x' : KindTree} {y y' : Option Numeral} → p ≡ p' → m ≡ m' → v ≡ v'
-    → x ≡ x' → y ≡ y' → d.Register p m v x y ≡ d.Register p' m' v' x' y'
-register_tree e f h i l = cc
-
-memory_tree : {p p' : Place} {m m' : Mention} {v v' u u' : Numeral} {x x' : KindTree} → p ≡ p' → m ≡ m' → v ≡ v' → u ≡ u' → x ≡ x' → d.Memory p m v u x ≡ d.Memory p' m' v' u' x'
-memory_tree e f h i l = cc
-
 pub declaration_one : {p p' q q' : Stage} {x x' : Decl} → p ≡ p' → g.Declaration p x q → g.Declaration p' x' q' → x ≡ x'
 declaration_one e (g.input word n c v z) (g.input word' n' c' v' z') =
     let m2 = same_behind e word word' in
     let m4 = same_behind (same_behind m2 n n') c c' in
-    input_tree (here_same e) (mention_same m2 (name_same (same_token m2 n n'))) (numeral_same m4 (number_same (same_token m4 v v')))
+    ap₃ d.Input (here_same e) (mention_same m2 (name_same (same_token m2 n n'))) (numeral_same m4 (number_same (same_token m4 v v')))
 declaration_one e (g.register word n c v kind start z) (g.register word' n' c' v' kind' start' z') =
     let m2 = same_behind e word word' in
     let m4 = same_behind (same_behind m2 n n') c c' in
@@ -394,14 +307,14 @@ declaration_one e (g.register word n c v kind start z) (g.register word' n' c' v
     let u = initial_not_under start (λ e. let f = first_is z in absurd (cc)) in
     let u' = initial_not_under start' (λ e. let f = first_is z' in absurd (cc)) in
     let m6 = same_rest s.kind_of m5 (kind_reads kind u) (kind_reads kind' u') in
-    register_tree (here_same e) (mention_same m2 (name_same (same_token m2 n n'))) (numeral_same m4 (number_same (same_token m4 v v'))) (kind_one m5 kind kind' u u')
+    ap₅ d.Register (here_same e) (mention_same m2 (name_same (same_token m2 n n'))) (numeral_same m4 (number_same (same_token m4 v v'))) (kind_one m5 kind kind' u u')
     (initial_one m6 start start' (λ e. let f = first_is z in absurd (cc)) (λ e. let f = first_is z' in absurd (cc)))
 declaration_one e (g.memory word n c v o depth b kind z) (g.memory word' n' c' v' o' depth' b' kind' z') =
     let m2 = same_behind e word word' in
     let m4 = same_behind (same_behind m2 n n') c c' in
     let m6 = same_behind (same_behind m4 v v') o o' in
     let m8 = same_behind (same_behind m6 depth depth') b b' in
-    memory_tree (here_same e) (mention_same m2 (name_same (same_token m2 n n'))) (numeral_same m4 (number_same (same_token m4 v v')))
+    ap₅ d.Memory (here_same e) (mention_same m2 (name_same (same_token m2 n n'))) (numeral_same m4 (number_same (same_token m4 v v')))
     (numeral_same m6 (number_same (same_token m6 depth depth')))
     (kind_one m8 kind kind' (λ e. let f = first_is z in absurd (cc)) (λ e. let f = first_is z' in absurd (cc)))
 declaration_one e (g.input word n c v z) (g.register word' n' c' v' kind' start' z') = let t = same_token e word word' in absurd (cc)
@@ -429,13 +342,6 @@ declarations_one e (g.declaration x more) (g.declaration x' more') h h' =
 
 -- states
 
-state_tree : {p p' : Place} {m m' : Mention} {x x' : KindTree} {b b' : t.CommandBlock} {c c' : t.StateList} → p ≡ p' → m ≡ m' → x ≡ x'
-    → b ≡ b' → c ≡ c' → t.state_node p m x b c ≡ t.state_node p' m' x' b' c'
-state_tree e f h i l = cc
-
-and_state : {x x' : t.StateTree} {xs xs' : t.StateList} → x ≡ x' → xs ≡ xs' → t.and_state x xs ≡ t.and_state x' xs'
-and_state e f = cc
-
 mutual
   pub state_one : {depth : ℕ} {p p' q q' : Stage} {x x' : t.StateTree} → p ≡ p' → g.State depth p x q → g.State depth p' x' q' → x ≡ x'
   state_one {depth} e (g.state word n kind o cs children z) (g.state word' n' kind' o' cs' children' z') =
@@ -445,9 +351,9 @@ mutual
       let h = states_end_cmds children (ap ends_cmds (first_is z)) in
       let h' = states_end_cmds children' (ap ends_cmds (first_is z')) in
       let m6 = same_rest (s.cmds 1) m5 (cmds_read cs h) (cmds_read cs' h') in
-      state_tree (here_same e) (mention_same m2 (name_same (same_token m2 n n'))) (kind_one m3 kind kind' (λ e. let f = first_is o in
+      ap₅ t.state_node (here_same e) (mention_same m2 (name_same (same_token m2 n n'))) (kind_one m3 kind kind' (λ e. let f = first_is o in
       absurd (cc)) (λ e. let f = first_is o' in absurd (cc)))
-      (commands_tree (cmds_one m5 cs cs' h h') (here_same m6))
+      (ap₂ t.command_block (cmds_one m5 cs cs' h h') (here_same m6))
       (states_one m6 children children' (λ e. let f = first_is z in absurd (cc)) (λ e. let f = first_is z' in absurd (cc)))
 
   pub states_one : {depth : ℕ} {p p' q q' : Stage} {xs ys : t.StateList} → p ≡ p' → g.States depth p xs q → g.States depth p' ys q'
@@ -456,7 +362,7 @@ mutual
   states_one e g.no_state (g.and_state x more) n n' = absurd (n (ap first_kind e ∙ state_first x))
   states_one e (g.and_state x more) g.no_state n n' = absurd (n' (sym (ap first_kind e) ∙ state_first x))
   states_one {depth} e (g.and_state x more) (g.and_state x' more') n n' =
-      and_state (state_one e x x') (states_one (same_rest (s.state depth) e (state_reads x) (state_reads x')) more more' n n')
+      ap₂ t.and_state (state_one e x x') (states_one (same_rest (s.state depth) e (state_reads x) (state_reads x')) more more' n n')
 
 design_tree : {v v' : Version} {xs xs' : List Decl} {y y' : t.StateTree} {ys ys' : t.StateList} → v ≡ v' → xs ≡ xs' → y ≡ y' → ys ≡ ys'
     → ◌≡◌ {A = t.DesignTree} (record { version = v; declarations = xs; states = t.and_state y ys }) (record { version = v'; declarations = xs'; states = t.and_state y' ys' })
