@@ -169,7 +169,8 @@ unfolding is_expression precedence_of tokens brackets pars opens
 cuts_between g.no_cut s = s
 cuts_between {version} {p = p} {x = x} (g.cut {high = high} {low = low} b more) s =
     let all = t.slice (record { first = first_of x; at = here p }) x high low in
-    cuts_between more (whole slice_precedence all (s and bounds_between b) (all_of (is_expression version x) (is_number high) (is_number low)) (omega arith) (omega arith) (omega arith))
+    let test = all_of (is_expression version x) (is_number high) (is_number low) in
+    cuts_between more (whole slice_precedence all (s and bounds_between b) test (omega arith) (omega arith) (omega arith))
 
 in_parentheses : {version : Version} {p q : Stage} (place : Place) (x : t.Expression) → Spans version p q (is_expression version x) (tokens x + 2) (brackets x + 1)
     → Operand version primary_precedence p (enclosed place x) q
@@ -195,7 +196,8 @@ mutual
   others_between {l} {p = p} {x = x} (g.other {y = y} o level a b more) s =
       let e = ap (λ k. pars k x) level in let f = ap (λ k. pars (k + 1) y) level in
       let e' = ap (λ k. opens k x) level in let f' = ap (λ k. opens (k + 1) y) level in
-      others_between more (whole l (t.binary_of (record { first = first_of x; at = here p }) o x y) (s and a before bin_between b) (λ h. h) (omega arith) (omega arith) (omega arith))
+      let all = t.binary_of (record { first = first_of x; at = here p }) o x y in
+      others_between more (whole l all (s and a before bin_between b) (λ h. h) (omega arith) (omega arith) (omega arith))
 
   unary_between : {version : Version} {p q : Stage} {x : t.Expression} → g.Unary p x q → Operand version unary_precedence p x q
   unary_between {x = z} (g.signed o s u) = whole unary_precedence z (s before unary_between u) (λ h. h) (omega arith) (omega arith) (omega arith)
