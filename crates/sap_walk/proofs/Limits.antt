@@ -51,23 +51,17 @@ module _ (G : Limited) where
   beside_taken {past} {q} {σ} (both_take {q = q'} {σ = σ'} f b) e =
       let same : q' ≡ q = cc in
       record { move = e; fresh = subst (λ (x : Kept). x.first ≡ None) same f; before = subst (λ (x : Kept). x.before ≡ past.before + 1) same b }
-  beside_taken (one_breaks f b) e = absurd (cc)
-  beside_taken neither_needs e = absurd (cc)
-  beside_taken both_refuse e = absurd (cc)
+  beside_taken _ e = absurd (cc)
 
   pub beside_refused : {past : Kept} {n m : Move Kept G.Symbol G.Limit} → Beside past n m → n ≡ rejected → m ≡ rejected
-  beside_refused (both_take f b) e = absurd (cc)
-  beside_refused (one_breaks f b) e = absurd (cc)
-  beside_refused neither_needs e = absurd (cc)
   beside_refused both_refuse e = refl
+  beside_refused _ e = absurd (cc)
 
   pub beside_broken : {past : Kept} {n m : Move Kept G.Symbol G.Limit} {limit : G.Limit} → Beside past n m → n ≡ breaks_limit limit → BreaksOne past limit m
-  beside_broken (both_take f b) e = absurd (cc)
   beside_broken {past} {limit = limit} (one_breaks {q = q} {σ = σ} {limit = limit'} f b) e =
       let same : limit' ≡ limit = cc in
       record { kept = q; to_come = σ; move = refl; first = f ∙ ap (λ l. Some (past.before, l)) same; before = b }
-  beside_broken neither_needs e = absurd (cc)
-  beside_broken both_refuse e = absurd (cc)
+  beside_broken _ e = absurd (cc)
 
   -- a run of the strict walk is one of the lenient walk
   pub record RunsBoth (front : List G.Token) (past q : Kept) (γ σ : List G.Symbol) : Type 0 where
@@ -110,8 +104,7 @@ module _ (G : Limited) where
         → ((q : Kept) (σ : List G.Symbol) → walk (lenient G) ts q σ ≡ Ok p → q.first ≡ Some f → p.past.first ≡ Some f) → p.past.first ≡ Some f
     by_move (moved_past q σ) m e g = g q σ e (stays γ q σ m)
     by_move not_needed m e g = let same : record { past = past; left = t ∷ ts } ≡ p = cc in subst (λ (x : Point (lenient G)). x.past.first ≡ Some f) same h
-    by_move rejected m e g = absurd (cc)
-    by_move (breaks_limit limit) m e g = absurd (cc)
+    by_move _ m e g = absurd (cc)
 
   -- what is known of the strict move from the lenient one
   pub data FromTaken (past q : Kept) (σ : List G.Symbol) : Move Kept G.Symbol G.Limit → Type 0 where
@@ -125,14 +118,11 @@ module _ (G : Limited) where
   beside_lenient {past} {q} {σ} (one_breaks {q = q'} {limit = limit} f b) e =
       let same : q' ≡ q = cc in
       broken limit (subst (λ (x : Kept). x.first ≡ Some (past.before, limit)) same f)
-  beside_lenient neither_needs e = absurd (cc)
-  beside_lenient both_refuse e = absurd (cc)
+  beside_lenient _ e = absurd (cc)
 
   pub beside_unneeded : {past : Kept} {n m : Move Kept G.Symbol G.Limit} → Beside past n m → m ≡ not_needed → n ≡ not_needed
-  beside_unneeded (both_take f b) e = absurd (cc)
-  beside_unneeded (one_breaks f b) e = absurd (cc)
   beside_unneeded neither_needs e = refl
-  beside_unneeded both_refuse e = absurd (cc)
+  beside_unneeded _ e = absurd (cc)
 
   some_none : {f : ℕ × G.Limit} (x : Option (ℕ × G.Limit)) → x ≡ Some f → x ≡ None → ⊥
   some_none x e n = cc
@@ -198,8 +188,7 @@ module _ (G : Limited) where
         → after (strict G) t ts past (settle (strict G) t past γ) ≡ Ok p
     by_move (moved_past q σ) m e g = by_taken q σ (settle (strict G) t past γ) (beside_lenient (beside t past γ fresh) m) e (g q σ e)
     by_move not_needed m e g = ap (after (strict G) t ts past) (beside_unneeded (beside t past γ fresh) m) ∙ e
-    by_move rejected m e g = absurd (cc)
-    by_move (breaks_limit limit) m e g = absurd (cc)
+    by_move _ m e g = absurd (cc)
 
   -- no limit is broken before the walk begins
   first_later : (ts : List G.Token) (past : Kept) (γ : List G.Symbol) (p : Point (lenient G)) (n : ℕ) (limit : G.Limit)
@@ -216,8 +205,7 @@ module _ (G : Limited) where
         → ((q : Kept) (σ : List G.Symbol) → walk (lenient G) ts q σ ≡ Ok p → q.first ≡ None → q.before ≤ n) → past.before ≤ n
     by_move (moved_past q σ) m e h = by_taken q σ (settle (strict G) t past γ) (beside_lenient (beside t past γ fresh) m) e (h q σ e)
     by_move not_needed m e h = absurd (kept_fresh past (t ∷ ts) p (n, limit) (cc) fresh f)
-    by_move rejected m e h = absurd (cc)
-    by_move (breaks_limit other) m e h = absurd (cc)
+    by_move _ m e h = absurd (cc)
 
   -- the strict walk stops at the token that is the first to break a limit in the lenient walk
   pub record StrictStops (front : List G.Token) (t : G.Token) (past : Kept) (γ : List G.Symbol) (limit : G.Limit) : Type 0 where
@@ -241,8 +229,7 @@ module _ (G : Limited) where
     by_move : (m : Move Kept G.Symbol G.Limit) → settle (lenient G) t past γ ≡ m → after (lenient G) t more past m ≡ Ok p → StrictStops [] t past γ limit
     by_move (moved_past q σ) m e = by_taken q σ (settle (strict G) t past γ) refl (beside_lenient (beside t past γ fresh) m) e
     by_move not_needed m e = absurd (kept_fresh past (t ∷ more) p _ (cc) fresh f)
-    by_move rejected m e = absurd (cc)
-    by_move (breaks_limit other) m e = absurd (cc)
+    by_move _ m e = absurd (cc)
   strict_stops (u ∷ front) t more past γ p limit e fresh f = by_move (settle (lenient G) u past γ) refl e (λ q σ e g h. strict_stops front t more q σ p limit e g h) where
     by_taken : (q : Kept) (σ : List G.Symbol) (n : Move Kept G.Symbol G.Limit) → settle (strict G) u past γ ≡ n → FromTaken past q σ n
         → walk (lenient G) (front ++ t ∷ more) q σ ≡ Ok p
@@ -260,5 +247,4 @@ module _ (G : Limited) where
         → StrictStops (u ∷ front) t past γ limit
     by_move (moved_past q σ) m e h = by_taken q σ (settle (strict G) u past γ) refl (beside_lenient (beside u past γ fresh) m) e (h q σ e)
     by_move not_needed m e h = absurd (kept_fresh past (u ∷ (front ++ t ∷ more)) p _ (cc) fresh f)
-    by_move rejected m e h = absurd (cc)
-    by_move (breaks_limit other) m e h = absurd (cc)
+    by_move _ m e h = absurd (cc)
