@@ -1,19 +1,15 @@
 -- The front of a list of tokens.
-use Rattle.sap_lemmas.proofs.Common.{◌≡◌, ◌<◌, ◌≤◌, ◌+◌, ℕ, List, [], ◌∷◌, length, drop, get_or, ap, refl, sym, None, ◌≢◌, ◌∙◌, arith, common_steps, one_more}
-use Rattle.std.proofs.Common.{drop-cons}
+use Rattle.sap_lemmas.proofs.Common.{◌≡◌, ◌<◌, ◌≤◌, ◌+◌, ℕ, List, [], ◌∷◌, length, drop, get_or, ap, refl, sym, None, ◌≢◌, arith, at_drop_all, at_drop_more}
 use Rattle.sap_vtext.specs.Tokens as t
 use Rattle.sap_vparse.specs.Reading.{constant_in, front_constant, front_name, front_number, head, head_of, here, name_in, number_in, of_nothing, Head}
 use Rattle.sap_vlex.specs.Spelling.{kind_of_token, token_of, tokens_of}
 use Rattle.sap_vlex.specs.declared.token.Token.{Token}
 
-drop_end : (ts : List Token) (n : ℕ) → length ts ≤ n → drop n ts ≡ []
-drop_end ts n h = grind (arith, common_steps)
-
 pub from_at : (ts : List Token) (n : ℕ) (d : Token) → n < length ts → tokens_of (drop n ts) ≡ token_of (get_or ts n d) ∷ tokens_of (drop (n + 1) ts)
-from_at ts n d h = ap tokens_of (drop-cons ts n d h) ∙ ap (λ m. token_of (get_or ts n d) ∷ tokens_of (drop m ts)) (one_more n)
+from_at ts n d h = at_drop_more tokens_of ts n d h
 
 from_end : (ts : List Token) (n : ℕ) → length ts ≤ n → tokens_of (drop n ts) ≡ []
-from_end ts n h = ap tokens_of (drop_end ts n h)
+from_end ts n h = at_drop_all tokens_of ts n h
 
 pub head_at : (ts : List Token) (n : ℕ) (d : Token) → n < length ts → head (tokens_of (drop n ts)) ≡ head_of (kind_of_token (get_or ts n d).kind)
 unfolding head
@@ -67,7 +63,4 @@ nothing_left [] e = refl
 nothing_left (x ∷ ts) e = absurd (some x.kind e) where
   some : (i : t.Kind) → head_of i ≡ of_nothing → ⊥
   some (t.word x) e = cc
-  some (t.sign x) e = cc
-  some (t.name x) e = cc
-  some (t.number x n) e = cc
-  some (t.constant x n) e = cc
+  some _ e = cc

@@ -1,9 +1,11 @@
 -- Each symbol can be spelled, and tokens that the walk takes go on as the grammar has it.
 use Rattle.sap_lemmas.proofs.Common.{◌≡◌, ℕ, List, [], ◌∷◌, ◌++◌, Bool, true, false, refl, sym, ap, subst, ◌∙◌, eqb, ◌⊎◌, inl, inr, ◌&&◌, eqb-true}
 use Rattle.sap_bits.specs.declared.Op1.TheVariants as unary
+use Rattle.sap_bits.specs.declared.Op1.{Op1}
 use Rattle.sap_bits.specs.declared.Op2.TheVariants as binary
+use Rattle.sap_bits.specs.declared.Op2.{Op2}
 use Rattle.sap_vtext.specs.Grammar as g
-use Rattle.sap_vtext.specs.Grammar.{AreParts, IsClocked, IsConstant, IsDigit, IsFile, IsItem, IsLoop, IsName, IsNumber, IsOperand, IsPort, IsRange, IsSign, IsWord}
+use Rattle.sap_vtext.specs.Grammar.{binary_sign, unary_sign, AreParts, IsClocked, IsConstant, IsDigit, IsFile, IsItem, IsLoop, IsName, IsNumber, IsOperand, IsPort, IsRange, IsSign, IsWord}
 use Rattle.sap_vtext.specs.Items as item
 use Rattle.sap_vtext.specs.Tokens as t
 use Rattle.sap_vtext.specs.Tokens.{IsToken}
@@ -203,6 +205,12 @@ parts_gives p (t.sign t.close_brace) = λ ts r h. (
 )
 parts_gives p _ = tt
 
+two_gives : (p : ℕ) (op : Op2) (ts r : List t.Token) → Ls (s.operand ∷ s.sign t.semicolon ∷ []) ts r → L s.after_operand (token p (t.sign (binary_sign op)) ∷ ts) r
+two_gives p op ts r h us x o = (
+  item.two op x h.1.0,
+  record { last = _; right = g.two op o (one_sign p (binary_sign op) ts) h.1.1; close = fin (s.sign t.semicolon) h.0 r h.2 },
+)
+
 after_operand_gives : (p : ℕ) (k : t.Kind) → Gives (next s.after_operand k) (λ ts r. L s.after_operand (token p k ∷ ts) r)
 after_operand_gives p (t.sign t.semicolon) =
     λ ts r h us x o. (
@@ -219,38 +227,18 @@ after_operand_gives p (t.sign t.question) =
       item.choose x h.1.0 h.2.2.1.0,
       record { last = _; right = g.choose o (one_sign p t.question ts) h.1.1 h.2.1 h.2.2.1.1; close = fin (s.sign t.semicolon) h.2.2.0 r h.2.2.2 },
     )
-after_operand_gives p (t.sign t.plus) = λ ts r h us x o. (
-  item.two binary.Add x h.1.0,
-  record { last = _; right = g.two binary.Add o (one_sign p t.plus ts) h.1.1; close = fin (s.sign t.semicolon) h.0 r h.2 },
-)
-after_operand_gives p (t.sign t.minus) =
-    λ ts r h us x o. (item.two binary.Sub x h.1.0, record { last = _; right = g.two binary.Sub o (one_sign p t.minus ts) h.1.1; close = fin (s.sign t.semicolon) h.0 r h.2 })
-after_operand_gives p (t.sign t.star) = λ ts r h us x o. (
-  item.two binary.Mul x h.1.0,
-  record { last = _; right = g.two binary.Mul o (one_sign p t.star ts) h.1.1; close = fin (s.sign t.semicolon) h.0 r h.2 },
-)
-after_operand_gives p (t.sign t.ampersand) =
-    λ ts r h us x o. (item.two binary.And x h.1.0, record { last = _; right = g.two binary.And o (one_sign p t.ampersand ts) h.1.1; close = fin (s.sign t.semicolon) h.0 r h.2 })
-after_operand_gives p (t.sign t.bar) = λ ts r h us x o. (
-  item.two binary.Or x h.1.0,
-  record { last = _; right = g.two binary.Or o (one_sign p t.bar ts) h.1.1; close = fin (s.sign t.semicolon) h.0 r h.2 },
-)
-after_operand_gives p (t.sign t.caret) =
-    λ ts r h us x o. (item.two binary.Xor x h.1.0, record { last = _; right = g.two binary.Xor o (one_sign p t.caret ts) h.1.1; close = fin (s.sign t.semicolon) h.0 r h.2 })
-after_operand_gives p (t.sign t.equal) =
-    λ ts r h us x o. (item.two binary.Eq x h.1.0, record { last = _; right = g.two binary.Eq o (one_sign p t.equal ts) h.1.1; close = fin (s.sign t.semicolon) h.0 r h.2 })
-after_operand_gives p (t.sign t.not_equal) =
-    λ ts r h us x o. (item.two binary.Ne x h.1.0, record { last = _; right = g.two binary.Ne o (one_sign p t.not_equal ts) h.1.1; close = fin (s.sign t.semicolon) h.0 r h.2 })
-after_operand_gives p (t.sign t.less) = λ ts r h us x o. (
-  item.two binary.Lt x h.1.0,
-  record { last = _; right = g.two binary.Lt o (one_sign p t.less ts) h.1.1; close = fin (s.sign t.semicolon) h.0 r h.2 },
-)
-after_operand_gives p (t.sign t.less_or_equal) =
-    λ ts r h us x o. (item.two binary.Le x h.1.0, record { last = _; right = g.two binary.Le o (one_sign p t.less_or_equal ts) h.1.1; close = fin (s.sign t.semicolon) h.0 r h.2 })
-after_operand_gives p (t.sign t.shift_left) =
-    λ ts r h us x o. (item.two binary.Shl x h.1.0, record { last = _; right = g.two binary.Shl o (one_sign p t.shift_left ts) h.1.1; close = fin (s.sign t.semicolon) h.0 r h.2 })
-after_operand_gives p (t.sign t.shift_right) =
-    λ ts r h us x o. (item.two binary.Shr x h.1.0, record { last = _; right = g.two binary.Shr o (one_sign p t.shift_right ts) h.1.1; close = fin (s.sign t.semicolon) h.0 r h.2 })
+after_operand_gives p (t.sign t.plus) = two_gives p binary.Add
+after_operand_gives p (t.sign t.minus) = two_gives p binary.Sub
+after_operand_gives p (t.sign t.star) = two_gives p binary.Mul
+after_operand_gives p (t.sign t.ampersand) = two_gives p binary.And
+after_operand_gives p (t.sign t.bar) = two_gives p binary.Or
+after_operand_gives p (t.sign t.caret) = two_gives p binary.Xor
+after_operand_gives p (t.sign t.equal) = two_gives p binary.Eq
+after_operand_gives p (t.sign t.not_equal) = two_gives p binary.Ne
+after_operand_gives p (t.sign t.less) = two_gives p binary.Lt
+after_operand_gives p (t.sign t.less_or_equal) = two_gives p binary.Le
+after_operand_gives p (t.sign t.shift_left) = two_gives p binary.Shl
+after_operand_gives p (t.sign t.shift_right) = two_gives p binary.Shr
 after_operand_gives p _ = tt
 
 after_name_gives : (p : ℕ) (k : t.Kind) → Gives (next s.after_name k) (λ ts r. L s.after_name (token p k ∷ ts) r)
@@ -274,27 +262,18 @@ after_bracket_gives p (t.constant x n) =
     )
 after_bracket_gives p _ = tt
 
+one_gives : (p : ℕ) (op : Op1) (ts r : List t.Token) → Ls (s.operand ∷ s.sign t.semicolon ∷ []) ts r → L s.right (token p (t.sign (unary_sign op)) ∷ ts) r
+one_gives p op ts r h = (
+  item.one op h.1.0,
+  record { last = _; right = g.one op (one_sign p (unary_sign op) ts) h.1.1; close = fin (s.sign t.semicolon) h.0 r h.2 },
+)
+
 right_gives : (p : ℕ) (k : t.Kind) → Gives (next s.right k) (λ ts r. L s.right (token p k ∷ ts) r)
-right_gives p (t.sign t.tilde) = λ ts r h. (
-  item.one unary.Not h.1.0,
-  record { last = _; right = g.one unary.Not (one_sign p t.tilde ts) h.1.1; close = fin (s.sign t.semicolon) h.0 r h.2 },
-)
-right_gives p (t.sign t.minus) = λ ts r h. (
-  item.one unary.Neg h.1.0,
-  record { last = _; right = g.one unary.Neg (one_sign p t.minus ts) h.1.1; close = fin (s.sign t.semicolon) h.0 r h.2 },
-)
-right_gives p (t.sign t.ampersand) = λ ts r h. (
-  item.one unary.AllOnes h.1.0,
-  record { last = _; right = g.one unary.AllOnes (one_sign p t.ampersand ts) h.1.1; close = fin (s.sign t.semicolon) h.0 r h.2 },
-)
-right_gives p (t.sign t.bar) = λ ts r h. (
-  item.one unary.AnyOne h.1.0,
-  record { last = _; right = g.one unary.AnyOne (one_sign p t.bar ts) h.1.1; close = fin (s.sign t.semicolon) h.0 r h.2 },
-)
-right_gives p (t.sign t.caret) = λ ts r h. (
-  item.one unary.Odd h.1.0,
-  record { last = _; right = g.one unary.Odd (one_sign p t.caret ts) h.1.1; close = fin (s.sign t.semicolon) h.0 r h.2 },
-)
+right_gives p (t.sign t.tilde) = one_gives p unary.Not
+right_gives p (t.sign t.minus) = one_gives p unary.Neg
+right_gives p (t.sign t.ampersand) = one_gives p unary.AllOnes
+right_gives p (t.sign t.bar) = one_gives p unary.AnyOne
+right_gives p (t.sign t.caret) = one_gives p unary.Odd
 right_gives p (t.sign t.open_brace) = λ ts r h. (
   item.concat (h.1.0 ∷ h.2.2.1.0 ∷ h.2.2.2.1.0),
   record { last = _; right = g.concat (one_sign p t.open_brace ts) h.1.1 h.2.1 h.2.2.1.1 h.2.2.2.1.2 h.2.2.2.1.3; close = fin (s.sign t.semicolon) h.2.2.2.0 r h.2.2.2.2 },
