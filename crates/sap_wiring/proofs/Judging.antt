@@ -1,5 +1,5 @@
 -- The rules on one wire, from what its texts name.
-use Rattle.sap_lemmas.proofs.Common.{◌≡◌, ◌≢◌, ℕ, suc, zero, ◌<◌, true, false, List, [], ◌∷◌, ◌++◌, codes, length, get_or, take, Option, Some, None, bytes_eq, slice_get, refl, sym, ap, ◌∙◌, subst, inl, inr, arith, list_any, both_ways, or_cases, or_left, or_right, same_Some, none-some, slice_get-get_or, bytes_eq-Decides}
+use Rattle.sap_lemmas.proofs.Common.{◌≡◌, ◌≢◌, ℕ, suc, zero, ◌<◌, true, false, List, [], ◌∷◌, ◌++◌, codes, length, get_or, take, Option, Some, None, bytes_eq, slice_get, slice_get_read, refl, sym, ap, ◌∙◌, subst, inl, inr, arith, list_any, both_ways, or_cases, or_left, or_right, same_Some, none-some, slice_get-get_or, bytes_eq-Decides}
 use Rattle.sap_lattice.specs.Levels.{level_named}
 use Rattle.sap_lattice.proofs.NameLemmas.{place_cases}
 use Rattle.sap_names.specs.declared.kind.Declared.TheVariants as what
@@ -53,6 +53,9 @@ feeds_earlier (v ∷ vs) (suc k) to (suc j) w low at same = or_right _ _ (feeds_
 pub record Given (u : Surroundings) (texts : List WireText) (k : ℕ) (t : WireText) : Type 0 where
   pub named : PartsNamed u
   pub here : slice_get texts k ≡ Some t
+
+pub given : (u : Surroundings) (texts : List WireText) (k : ℕ) {t : WireText} → PartsNamed u → k < length texts → t ≡ get_or texts k t → Given u texts k t
+given u texts k {t = t} named within is = record { named = named; here = slice_get_read texts (length texts) k t refl within is }
 
 module _ (u : Surroundings) (texts : List WireText) (k : ℕ) (t : WireText) (g : Given u texts k t) where
   broken : (code : LinkCode) → Stands u texts code k → Breaks u texts code k t
