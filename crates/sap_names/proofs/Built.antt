@@ -50,10 +50,8 @@ faultless-fit levels le x h =
     have_widths-append (declared_in x.declarations) (group_entities x.states) (declared-fit levels le x.declarations (nil_right _ _ (nil_left _ _ h))) (group-fit x.states)
 
 width-fit : (w : Declared) → HasWidth w → declared_width w ≤ 64
-width-fit (d.Input width) h = h.1
-width-fit (d.Register width) h = h.1
-width-fit (d.Memory width depth) h = h.1
 width-fit d.State h = omega arith
+width-fit _ h = h.1
 
 pub width-fits : (es : List Entity) (n : ℕ) (e : Entity) → HaveWidths es → slice_get es n ≡ Some e → declared_width e.what ≤ 64
 width-fits [] n e h k = absurd (cc)

@@ -1,5 +1,5 @@
 -- The entities of lists of parts, from a place on.
-use Rattle.sap_lemmas.proofs.Common.{◌≡◌, ℕ, zero, suc, ◌+◌, ◌<◌, ◌≤◌, List, [], ◌∷◌, ◌++◌, length, get_or, drop, refl, sym, ap, ◌∙◌, arith, add-one, append_assoc, append-nil}
+use Rattle.sap_lemmas.proofs.Common.{◌≡◌, ℕ, zero, suc, ◌+◌, ◌<◌, ◌≤◌, List, [], ◌∷◌, ◌++◌, length, get_or, drop, refl, sym, ap, ◌∙◌, arith, add-one, at_drop_all, at_drop_more, append_assoc, append-nil}
 use Rattle.sap_tree.specs.Trees.{state_of, states_of}
 use Rattle.sap_tree.specs.declared.syntax.Decl.{Decl}
 use Rattle.sap_tree.specs.declared.syntax.State.{State}
@@ -7,29 +7,19 @@ use Rattle.sap_names.specs.Entities.{Entity, entity_of, declared_in, state_entit
 use Rattle.sap_names.specs.Lists.{states_entities}
 
 pub declared_in-drop : (ds : List Decl) (n : ℕ) (d : Decl) → n < length ds → declared_in (drop n ds) ≡ entity_of (get_or ds n d) ∷ declared_in (drop (n + 1) ds)
-declared_in-drop [] n d h = absurd (omega arith)
-declared_in-drop (x ∷ ds) zero d h = refl
-declared_in-drop (x ∷ ds) (suc n) d h = let r = declared_in-drop ds n d (omega arith) in simp (add-one) (simp (add-one) at r)
+declared_in-drop ds n d h = at_drop_more declared_in ds n d h
 
 pub declared_in-past : (ds : List Decl) (n : ℕ) → length ds ≤ n → declared_in (drop n ds) ≡ []
-declared_in-past [] zero h = refl
-declared_in-past [] (suc n) h = refl
-declared_in-past (d ∷ ds) zero h = absurd (omega arith)
-declared_in-past (d ∷ ds) (suc n) h = declared_in-past ds n (omega arith)
+declared_in-past ds n h = at_drop_all declared_in ds n h
 
 pub states_entities-drop : (ss : List State) (n : ℕ) (d : State) → n < length ss
     → states_entities (drop n ss) ≡ state_entities (state_of (get_or ss n d)) ++ states_entities (drop (n + 1) ss)
 unfolding states_entities
-states_entities-drop [] n d h = absurd (omega arith)
-states_entities-drop (s ∷ ss) zero d h = refl
-states_entities-drop (s ∷ ss) (suc n) d h = let r = states_entities-drop ss n d (omega arith) in simp (add-one) (simp (add-one) at r)
+states_entities-drop ss n d h = at_drop_more states_entities ss n d h
 
 pub states_entities-past : (ss : List State) (n : ℕ) → length ss ≤ n → states_entities (drop n ss) ≡ []
 unfolding states_entities
-states_entities-past [] zero h = refl
-states_entities-past [] (suc n) h = refl
-states_entities-past (s ∷ ss) zero h = absurd (omega arith)
-states_entities-past (s ∷ ss) (suc n) h = states_entities-past ss n (omega arith)
+states_entities-past ss n h = at_drop_all states_entities ss n h
 
 pub states_entities-all : (ss : List State) → states_entities ss ≡ group_entities (states_of ss)
 unfolding states_entities

@@ -1,5 +1,5 @@
 -- The faults of lists, from a place on.
-use Rattle.sap_lemmas.proofs.Common.{◌≡◌, ℕ, Bool, zero, suc, ◌+◌, ◌<◌, ◌≤◌, List, [], ◌∷◌, ◌++◌, append_assoc, length, get_or, drop, refl, sym, ap, ap₂, ◌∙◌, arith, add-one, Some, Option}
+use Rattle.sap_lemmas.proofs.Common.{◌≡◌, ℕ, Bool, ◌+◌, ◌<◌, ◌≤◌, List, [], ◌∷◌, ◌++◌, append_assoc, length, get_or, drop, refl, sym, ap, ap₂, ◌∙◌, at_drop_all, at_drop_more, Some, Option}
 use Rattle.sap_names.specs.declared.fault.Fault.{Fault}
 use Rattle.sap_names.specs.Best.{best_of}
 use Rattle.sap_names.proofs.Faults.{both, three}
@@ -19,44 +19,29 @@ use Rattle.sap_names.specs.Lists.{tags_faults, commands_faults, constants_faults
 pub tags_faults-drop : (levels : List (List ℕ)) (what : Lookup) (ts : List TagExpr) (n : ℕ) (d : TagExpr) → n < length ts
     → tags_faults levels what (drop n ts) ≡ tag_faults levels what (tag_of (get_or ts n d)) ++ tags_faults levels what (drop (n + 1) ts)
 unfolding tags_faults
-tags_faults-drop levels what [] n d h = absurd (omega arith)
-tags_faults-drop levels what (t ∷ ts) zero d h = refl
-tags_faults-drop levels what (t ∷ ts) (suc n) d h = let r = tags_faults-drop levels what ts n d (omega arith) in simp (add-one) (simp (add-one) at r)
+tags_faults-drop levels what ts n d h = at_drop_more (tags_faults levels what) ts n d h
 
 pub tags_faults-past : (levels : List (List ℕ)) (what : Lookup) (ts : List TagExpr) (n : ℕ) → length ts ≤ n → tags_faults levels what (drop n ts) ≡ []
 unfolding tags_faults
-tags_faults-past levels what [] zero h = refl
-tags_faults-past levels what [] (suc n) h = refl
-tags_faults-past levels what (t ∷ ts) zero h = absurd (omega arith)
-tags_faults-past levels what (t ∷ ts) (suc n) h = tags_faults-past levels what ts n (omega arith)
+tags_faults-past levels what ts n h = at_drop_all (tags_faults levels what) ts n h
 
 pub commands_faults-drop : (levels : List (List ℕ)) (what : Lookup) (cs : List Cmd) (n : ℕ) (d : Cmd) → n < length cs
     → commands_faults levels what (drop n cs) ≡ command_faults levels what (command_of (get_or cs n d)) ++ commands_faults levels what (drop (n + 1) cs)
 unfolding commands_faults
-commands_faults-drop levels what [] n d h = absurd (omega arith)
-commands_faults-drop levels what (c ∷ cs) zero d h = refl
-commands_faults-drop levels what (c ∷ cs) (suc n) d h = let r = commands_faults-drop levels what cs n d (omega arith) in simp (add-one) (simp (add-one) at r)
+commands_faults-drop levels what cs n d h = at_drop_more (commands_faults levels what) cs n d h
 
 pub commands_faults-past : (levels : List (List ℕ)) (what : Lookup) (cs : List Cmd) (n : ℕ) → length cs ≤ n → commands_faults levels what (drop n cs) ≡ []
 unfolding commands_faults
-commands_faults-past levels what [] zero h = refl
-commands_faults-past levels what [] (suc n) h = refl
-commands_faults-past levels what (c ∷ cs) zero h = absurd (omega arith)
-commands_faults-past levels what (c ∷ cs) (suc n) h = commands_faults-past levels what cs n (omega arith)
+commands_faults-past levels what cs n h = at_drop_all (commands_faults levels what) cs n h
 
 pub constants_faults-drop : (what : Lookup) (asked : Option ℕ) (es : List Expr) (n : ℕ) (d : Expr) → n < length es
     → constants_faults what asked (drop n es) ≡ expression_faults what (expression_of (get_or es n d)) asked ++ constants_faults what asked (drop (n + 1) es)
 unfolding constants_faults
-constants_faults-drop what asked [] n d h = absurd (omega arith)
-constants_faults-drop what asked (e ∷ es) zero d h = refl
-constants_faults-drop what asked (e ∷ es) (suc n) d h = let r = constants_faults-drop what asked es n d (omega arith) in simp (add-one) (simp (add-one) at r)
+constants_faults-drop what asked es n d h = at_drop_more (constants_faults what asked) es n d h
 
 pub constants_faults-past : (what : Lookup) (asked : Option ℕ) (es : List Expr) (n : ℕ) → length es ≤ n → constants_faults what asked (drop n es) ≡ []
 unfolding constants_faults
-constants_faults-past what asked [] zero h = refl
-constants_faults-past what asked [] (suc n) h = refl
-constants_faults-past what asked (e ∷ es) zero h = absurd (omega arith)
-constants_faults-past what asked (e ∷ es) (suc n) h = constants_faults-past what asked es n (omega arith)
+constants_faults-past what asked es n h = at_drop_all (constants_faults what asked) es n h
 
 pub constants_step : (what : Lookup) (asked : Option ℕ) (es : List Expr) (n : ℕ) (d : Expr) (o m : Option Fault) → n < length es → d ≡ get_or es n d
     → m ≡ best_of o (expression_faults what (expression_of d) asked)
@@ -78,16 +63,11 @@ pub arms_faults-drop : (levels : List (List ℕ)) (what : Lookup) (asked : Optio
     ≡ faults.constants_faults what asked (constants_of (get_or arms n d)) ++ block_faults levels what (arm_block_of (get_or arms n d))
     ++ arms_faults levels what asked (drop (n + 1) arms)
 unfolding arms_faults
-arms_faults-drop levels what asked [] n d h = absurd (omega arith)
-arms_faults-drop levels what asked (arm ∷ arms) zero d h = refl
-arms_faults-drop levels what asked (arm ∷ arms) (suc n) d h = let r = arms_faults-drop levels what asked arms n d (omega arith) in simp (add-one) (simp (add-one) at r)
+arms_faults-drop levels what asked arms n d h = at_drop_more (arms_faults levels what asked) arms n d h
 
 pub arms_faults-past : (levels : List (List ℕ)) (what : Lookup) (asked : Option ℕ) (arms : List Arm) (n : ℕ) → length arms ≤ n → arms_faults levels what asked (drop n arms) ≡ []
 unfolding arms_faults
-arms_faults-past levels what asked [] zero h = refl
-arms_faults-past levels what asked [] (suc n) h = refl
-arms_faults-past levels what asked (arm ∷ arms) zero h = absurd (omega arith)
-arms_faults-past levels what asked (arm ∷ arms) (suc n) h = arms_faults-past levels what asked arms n (omega arith)
+arms_faults-past levels what asked arms n h = at_drop_all (arms_faults levels what asked) arms n h
 
 pub arms_step : (levels : List (List ℕ)) (what : Lookup) (asked : Option ℕ) (arms : List Arm) (n : ℕ) (d : Arm) (es : List Expr)
     (cs : List Cmd) (o m k : Option Fault) → n < length arms
@@ -137,15 +117,10 @@ commands_step levels what cs n d o m h e k =
 
 pub declarations_faults-drop : (levels : List (List ℕ)) (le : ℕ → ℕ → Bool) (ds : List Decl) (n : ℕ) (d : Decl) → n < length ds
     → declarations_faults levels le (drop n ds) ≡ declaration_faults levels le (get_or ds n d) ++ declarations_faults levels le (drop (n + 1) ds)
-declarations_faults-drop levels le [] n d h = absurd (omega arith)
-declarations_faults-drop levels le (x ∷ ds) zero d h = refl
-declarations_faults-drop levels le (x ∷ ds) (suc n) d h = let r = declarations_faults-drop levels le ds n d (omega arith) in simp (add-one) (simp (add-one) at r)
+declarations_faults-drop levels le ds n d h = at_drop_more (declarations_faults levels le) ds n d h
 
 pub declarations_faults-past : (levels : List (List ℕ)) (le : ℕ → ℕ → Bool) (ds : List Decl) (n : ℕ) → length ds ≤ n → declarations_faults levels le (drop n ds) ≡ []
-declarations_faults-past levels le [] zero h = refl
-declarations_faults-past levels le [] (suc n) h = refl
-declarations_faults-past levels le (d ∷ ds) zero h = absurd (omega arith)
-declarations_faults-past levels le (d ∷ ds) (suc n) h = declarations_faults-past levels le ds n (omega arith)
+declarations_faults-past levels le ds n h = at_drop_all (declarations_faults levels le) ds n h
 
 pub declarations_step : (levels : List (List ℕ)) (le : ℕ → ℕ → Bool) (ds : List Decl) (n : ℕ) (d : Decl) (o m : Option Fault) → n < length ds → d ≡ get_or ds n d
     → m ≡ best_of o (declaration_faults levels le d)
@@ -157,16 +132,11 @@ declarations_step levels le ds n d o m h e k =
 pub states_faults-drop : (levels : List (List ℕ)) (le : ℕ → ℕ → Bool) (what : Lookup) (ss : List State) (n : ℕ) (d : State) → n < length ss
     → states_faults levels le what (drop n ss) ≡ state_faults levels le what (state_of (get_or ss n d)) ++ states_faults levels le what (drop (n + 1) ss)
 unfolding states_faults
-states_faults-drop levels le what [] n d h = absurd (omega arith)
-states_faults-drop levels le what (s ∷ ss) zero d h = refl
-states_faults-drop levels le what (s ∷ ss) (suc n) d h = let r = states_faults-drop levels le what ss n d (omega arith) in simp (add-one) (simp (add-one) at r)
+states_faults-drop levels le what ss n d h = at_drop_more (states_faults levels le what) ss n d h
 
 pub states_faults-past : (levels : List (List ℕ)) (le : ℕ → ℕ → Bool) (what : Lookup) (ss : List State) (n : ℕ) → length ss ≤ n → states_faults levels le what (drop n ss) ≡ []
 unfolding states_faults
-states_faults-past levels le what [] zero h = refl
-states_faults-past levels le what [] (suc n) h = refl
-states_faults-past levels le what (s ∷ ss) zero h = absurd (omega arith)
-states_faults-past levels le what (s ∷ ss) (suc n) h = states_faults-past levels le what ss n (omega arith)
+states_faults-past levels le what ss n h = at_drop_all (states_faults levels le what) ss n h
 
 pub states_faults-all : (levels : List (List ℕ)) (le : ℕ → ℕ → Bool) (what : Lookup) (ss : List State)
     → states_faults levels le what ss ≡ faults.states_faults levels le what (states_of ss)

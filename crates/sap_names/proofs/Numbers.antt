@@ -42,8 +42,7 @@ numbers_push es e entries k n h same all name =
 
 kept : (o : Option ℕ) (b : Bool) (n : ℕ) → (b ≡ true → is_some o ≡ true) → option_or o (if b then Some n else None) ≡ o
 kept None true n h = absurd (true≢false (sym (h refl)))
-kept None false n h = refl
-kept (Some m) b n h = refl
+kept _ _ n h = refl
 
 -- one that is there
 pub numbers_skip : (es : List Entity) (e : Entity) (entries : List (Vec ℕ Global × ℕ)) → is_some (under entries e.name.name) ≡ true

@@ -1,5 +1,5 @@
 -- An entity that is declared earlier is not the first of its name.
-use Rattle.sap_lemmas.proofs.Common.{◌≡◌, ◌∙◌, ℕ, zero, suc, ◌+◌, ◌<◌, ◌≤◌, List, [], ◌∷◌, ◌++◌, length, get_or, take, drop, Bool, true, false, refl, ap, ap₂, sym, arith, add-one, nat_list_eq_equiv, take_more, Option, Some, None, if◌then◌else◌, option_map, eqb, not, bytes_eq}
+use Rattle.sap_lemmas.proofs.Common.{◌≡◌, ◌∙◌, ℕ, zero, suc, ◌+◌, ◌<◌, ◌≤◌, List, [], ◌∷◌, ◌++◌, length, get_or, take, drop, Bool, true, false, refl, ap, ap₂, sym, arith, at_drop_all, at_drop_more, nat_list_eq_equiv, take_more, Option, Some, None, if◌then◌else◌, option_map, eqb, not, bytes_eq}
 use Rattle.std.proofs.Math.Dec.{eqb-suc-suc, eqb-zero-suc}
 use Rattle.sap_names.specs.Best.{best_of}
 use Rattle.sap_names.specs.Entities.{Entity, number_of}
@@ -26,15 +26,10 @@ declared-is_later (e ∷ es) (suc n) d name h same = one_more (bytes_eq e.name.n
 
 twice-drop : (before es : List Entity) (n : ℕ) (d : Entity) → n < length es
     → twice before (drop n es) ≡ fault_if (is_declared before (get_or es n d).name.name) E3 (get_or es n d).name.place ++ twice (before ++ get_or es n d ∷ []) (drop (n + 1) es)
-twice-drop before [] n d h = absurd (omega arith)
-twice-drop before (e ∷ es) zero d h = refl
-twice-drop before (e ∷ es) (suc n) d h = let r = twice-drop before es n d (omega arith) in simp (add-one) (simp (add-one) at r)
+twice-drop before es n d h = at_drop_more (twice before) es n d h
 
 pub twice_past : (before es : List Entity) (n : ℕ) → length es ≤ n → twice before (drop n es) ≡ []
-twice_past before [] zero h = refl
-twice_past before [] (suc n) h = refl
-twice_past before (e ∷ es) zero h = absurd (omega arith)
-twice_past before (e ∷ es) (suc n) h = twice_past before es n (omega arith)
+twice_past before es n h = at_drop_all (twice before) es n h
 
 -- one entity, and those behind it
 pub twice_step : (es items : List Entity) (n : ℕ) (d : Entity) (name : List ℕ) (b : Bool) (o m : Option Fault) → items ≡ es → n < length items → d ≡ get_or items n d
