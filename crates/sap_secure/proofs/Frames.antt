@@ -2,11 +2,10 @@
 use Rattle.sap_lemmas.proofs.Common.{◌≡◌, ℕ, zero, suc, Bool, true, false, ◌&&◌, ◌||◌, refl, sym, ap, ◌∙◌, nat_eq, inl, inr, cases_Bool, false_from_ne_true, or_cases, or_from, or_left, or_right, neither_left, neither_right, test_of_same}
 use Rattle.sap_meaning.proofs.FineLemmas.{inside_among}
 use Rattle.sap_maps.specs.Term.{Term}
-use Rattle.sap_meaning.specs.Prelude.{World, is_dynamic, is_memory, is_state, place, below, Step, assign, write, retag, retag_cell, go_to, fall_to_child, Command, lone, try, if_else, try_then, case_of, Arms, last_arm, and_arm, Block, end_block, command_then, State, state_node, Group, no_node, and_node, Slot, own, start, next, Store, owner, home, level, child, same_slot, put_number, put_level, put_child, raised, raise, lowered, reset, After, stay, value, tag, Home, guard, test, among, step_hangs, touches, raised_alone, group_assigns, step_retags, retags, block_retags, state_retags, group_retags, effect, attempt, select, branch, does, does_block, does_state, does_child, attempt_then, does_arms, FineTerm, FineStep, FineCommand, FineState, FineGroup, transfers, Open, inside, step_writes, writes, Every, EveryInArms, EveryInBlock}
+use Rattle.sap_meaning.specs.Prelude.{World, is_dynamic, is_memory, is_state, place, below, Step, assign, write, retag, retag_cell, go_to, fall_to_child, Command, lone, try, if_else, try_then, case_of, Arms, last_arm, and_arm, Block, end_block, command_then, State, state_node, Group, no_node, and_node, Slot, own, start, next, Store, owner, home, level, child, same_slot, put_number, put_level, put_child, raised, raise, lowered, reset, After, stay, value, tag, Home, guard, test, among, step_hangs, touches, raised_alone, group_assigns, step_retags, retags, block_retags, state_retags, group_retags, effect, attempt, select, branch, does, does_block, does_state, does_child, attempt_then, does_arms, FineTerm, FineStep, FineCommand, FineState, FineGroup, transfers, Open, inside, step_writes, writes, Every, EveryInArms, EveryInBlock, Asks}
 use Rattle.sap_meaning.proofs.Slots.{slot_same, home_next, home_start, owner_home}
 use Rattle.sap_meaning.proofs.Keeps.{branch_all, choose_all}
 use Rattle.sap_meaning.proofs.WalksLemmas.{none_passes}
-use Rattle.sap_meaning.specs.Walks.{Asks}
 use Rattle.sap_secure.proofs.Apart.{register_apart, memory_apart, state_no_register, state_no_memory, group_unassigned, step_unhung}
 use Rattle.sap_secure.proofs.Sites.{Site, spot, Proper, ProperStep, Any, none_each, none_in_block, known_both, known_in_block}
 
