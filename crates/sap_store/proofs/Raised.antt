@@ -1,6 +1,5 @@
 -- Raising one entity after another.
-use Rattle.std.proofs.lemmas.List.{at_drop_all, at_drop_more}
-use Rattle.sap_lemmas.proofs.Common.{◌≡◌, ℕ, ◌+◌, ◌<◌, ◌≤◌, Bool, true, false, ◌&&◌, ◌||◌, List, [], ◌∷◌, length, get_or, drop, refl, sym, ap, ◌∙◌, arith, nat_eq, nat_lt, if◌then◌else◌, inl, inr, cases_Bool, lt-ltb, ltb-true, eq-eqb, eqb-true, ne_eqb, and_parts, and_false, and_true, get_or_past}
+use Rattle.sap_lemmas.proofs.Common.{◌≡◌, ℕ, ◌+◌, ◌<◌, ◌≤◌, Bool, true, false, ◌&&◌, ◌||◌, List, [], ◌∷◌, length, get_or, drop, refl, sym, ap, ◌∙◌, arith, nat_eq, nat_lt, if◌then◌else◌, inl, inr, cases_Bool, lt-ltb, ltb-true, eq-eqb, eqb-true, ne_eqb, and_parts, and_false, and_true, get_or_past, at_drop_all, at_drop_more}
 use Rattle.sap_resolved.proofs.FillLemmas.{table_at, table_length}
 use Rattle.sap_lattice.specs.Order.{Order}
 use Rattle.sap_meaning.specs.Prelude.{World, root, listed, Slot, own, next_whole, Store, raised, raise}

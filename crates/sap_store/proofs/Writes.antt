@@ -1,7 +1,6 @@
 -- What writes to the code's store do to what it is seen as.
 use Rattle.std.proofs.lemmas.Bool.{cond_both}
-use Rattle.std.proofs.lemmas.List.{get_or_default}
-use Rattle.sap_lemmas.proofs.Common.{◌≡◌, ℕ, ◌<◌, ◌^◌, Bool, true, false, ◌&&◌, List, length, get_or, set, refl, sym, ap, ◌∙◌, nat_eq, if◌then◌else◌, length-set, lt-ltb, eqb-true, ne_eqb, test_of_same}
+use Rattle.sap_lemmas.proofs.Common.{◌≡◌, ℕ, ◌<◌, ◌^◌, Bool, true, false, ◌&&◌, List, length, get_or, set, refl, sym, ap, ◌∙◌, nat_eq, if◌then◌else◌, length-set, lt-ltb, eqb-true, ne_eqb, test_of_same, get_or_default}
 use Rattle.sap_meaning.specs.Prelude.{World, root, width, is_dynamic, Slot, own, start, next, start_whole, next_whole, Store, owner, same_slot, put_number, put_level, put_child, raise, raised, source}
 use Rattle.sap_store.specs.declared.cell.Cell.{Cell}
 use Rattle.sap_store.specs.declared.entry.Entry.{Entry}
