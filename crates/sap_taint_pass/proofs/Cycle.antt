@@ -137,13 +137,10 @@ same_operands sc a b v h k u (o ∷ os) i =
 
 same_right : (ms : Shapes) (sc : Scope) (a b : Name → ℕ) (v : Valuation) → WidthsAre sc a → WidthsAre sc b → (u : ℕ) (r : Right)
     → IsRight ms sc u r → right_value a v r ≡ right_value b v r
-same_right ms sc a b v h k u (Copy o) i = refl
 same_right ms sc a b v h k u (One op o) i = ap (λ x. value1 op x (operand_value v o)) (same_width sc a b h k i.0 o i.2)
 same_right ms sc a b v h k u (Two op o q) i = ap (λ x. value2 op x (operand_value v o) (operand_value v q)) (same_width sc a b h k i.0 o i.4)
-same_right ms sc a b v h k u (Choose c o q) i = refl
 same_right ms sc a b v h k u (Concat os) i = same_operands sc a b v h k u os i.1
-same_right ms sc a b v h k u (Slice x hi lo) i = refl
-same_right ms sc a b v h k u (Cell m o) i = refl
+same_right ms sc a b v h k u _ i = refl
 
 data_holds : (ms : Shapes) (all : Scope) (a b : Name → ℕ) (v : Valuation) → WidthsAre all a → WidthsAre all b
     → (ws : List Wire) (sc : Scope) → AreWires ms sc ws → Grows (readable_after sc ws) all

@@ -55,11 +55,11 @@ one_declared n k m m' x h f e =
 
 -- four
 
-record FourNames (n : Net) (k : ℕ) (m m' : Net) (a b c d : Name) : Type 0 where
-  named : AreWriteNames (helping_name n) k a b c d
-  adds : Adds n k 4 [] [] m m'
+pub record FourNames (n : Net) (k : ℕ) (m m' : Net) (a b c d : Name) : Type 0 where
+  pub named : AreWriteNames (helping_name n) k a b c d
+  pub adds : Adds n k 4 [] [] m m'
 
-four : (n : Net) (k : ℕ) (m m1 m2 m3 m4 : Net) (a b c d : Name) → Helped n k m → IsFresh (taken m) a → m1 ≡ declared a m → IsFresh (taken m1) b → m2 ≡ declared b m1
+pub four : (n : Net) (k : ℕ) (m m1 m2 m3 m4 : Net) (a b c d : Name) → Helped n k m → IsFresh (taken m) a → m1 ≡ declared a m → IsFresh (taken m1) b → m2 ≡ declared b m1
     → IsFresh (taken m2) c → m3 ≡ declared c m2 → IsFresh (taken m3) d → m4 ≡ declared d m3 → FourNames n k m m4 a b c d
 four n k m m1 m2 m3 m4 a b c d h fa ea fb eb fc ec fd ed =
     let p1 = one_declared n k m m1 a h fa ea in
@@ -76,14 +76,6 @@ four n k m m1 m2 m3 m4 a b c d h fa ea fb eb fc ec fd ed =
           record { first = next_name n k m a h fa; second = next_name n (k + 1) m1 b h1 fb; third = next_name n (k + 2) m2 c h2 fc; fourth = next_name n (k + 3) m3 d h3 fd };
       adds = p4 ∙ adds_more n k 3 1 [] [] [] [] m m3 q3;
     }
-
-pub four_names : (n : Net) (k : ℕ) (m m1 m2 m3 m4 : Net) (a b c d : Name) → Helped n k m → IsFresh (taken m) a → m1 ≡ declared a m → IsFresh (taken m1) b → m2 ≡ declared b m1
-    → IsFresh (taken m2) c → m3 ≡ declared c m2 → IsFresh (taken m3) d → m4 ≡ declared d m3 → AreWriteNames (helping_name n) k a b c d
-four_names n k m m1 m2 m3 m4 a b c d h fa ea fb eb fc ec fd ed = (four n k m m1 m2 m3 m4 a b c d h fa ea fb eb fc ec fd ed).named
-
-pub four_declared : (n : Net) (k : ℕ) (m m1 m2 m3 m4 : Net) (a b c d : Name) → Helped n k m → IsFresh (taken m) a → m1 ≡ declared a m → IsFresh (taken m1) b → m2 ≡ declared b m1
-    → IsFresh (taken m2) c → m3 ≡ declared c m2 → IsFresh (taken m3) d → m4 ≡ declared d m3 → Adds n k 4 [] [] m m4
-four_declared n k m m1 m2 m3 m4 a b c d h fa ea fb eb fc ec fd ed = (four n k m m1 m2 m3 m4 a b c d h fa ea fb eb fc ec fd ed).adds
 
 -- names, then a register, then wires
 pub all_added : (n : Net) (k count : ℕ) (ws : List Wire) (r : Register) (m m1 m2 m3 : Net) → Adds n k count [] [] m m1 → m2 ≡ registered r m1 → m3 ≡ grown [] ws [] m2

@@ -18,14 +18,12 @@ use Rattle.sap_taint_pass.proofs.Setting.{Setting, among_with_tags, name_with_ta
 -- names
 
 behind_inner : (bs : List ℕ) → list_all is_inner bs ≡ true → list_all is_inner (unwrap_or (value_of bs) bs) ≡ true
-behind_inner [] h = h
-behind_inner (a ∷ []) h = h
-behind_inner (a ∷ (b ∷ [])) h = h
 behind_inner (a ∷ (b ∷ (c ∷ x))) h =
     elim (cases_Bool (a == byte "v" && b == byte "_")) [
       | inl t ↦ rw t (and_right (is_inner b) (list_all is_inner (c ∷ x)) (and_right (is_inner a) (list_all is_inner (b ∷ c ∷ x)) h))
       | inr f ↦ rw f h
     ]
+behind_inner _ h = h
 
 initial_inner : (c : ℕ) → is_initial c ≡ true → is_inner c ≡ true
 initial_inner c h = grind (arith, h)
@@ -94,9 +92,8 @@ tag_of_declared n xs k x m =
     subst (λ (y : Name). is_among y (with_tags n.names) ≡ true) (sym r.2) (tag_with_tags (name_of_tag r.0) n.names (tag_among r.0 n.names (k r.0 r.1)))
 
 pub follows : (a b : Bool) → (b ≡ true → a ≡ true) → (a && b) ≡ b
-follows true b h = refl
 follows false true h = h refl
-follows false false h = refl
+follows _ _ h = refl
 
 pub all_registers_declared : (helping : ℕ → Name) (w : ℕ) (n : Net) → Setting helping w n → AllAmong (names_in (all_registers helping w n)) (with_tags n.names)
 all_registers_declared helping w n s x m =

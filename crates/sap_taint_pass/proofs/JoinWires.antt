@@ -58,9 +58,8 @@ joined_are_wires helping one ms none w wide sc k x (t ∷ ts) new other fresh no
 
 -- their names
 joins_names : (helping : ℕ → Name) (w k : ℕ) (x t : Name) (ts : List Name) → names_of (joins helping w k x t ts) ≡ some_names helping k (help_for (t ∷ ts)) ++ x ∷ []
-joins_names helping w k x t [] = refl
-joins_names helping w k x t (a ∷ []) = refl
 joins_names helping w k x t (a ∷ (b ∷ ts)) = ap (λ ns. helping k ∷ ns) (joins_names helping w (k + 1) x (helping k) (b ∷ ts))
+joins_names helping w k x t _ = refl
 
 pub joined_names : (helping : ℕ → Name) (w k : ℕ) (x : Name) (ts : List Name) → names_of (joined helping w k x ts) ≡ some_names helping k (help_for ts) ++ x ∷ []
 joined_names helping w k x [] = refl

@@ -19,10 +19,8 @@ use Rattle.sap_taint_pass.proofs.InOrder.{names_in, ordered_names}
 -- wires
 
 joins_count : (helping : ℕ → Name) (w k : ℕ) (x t : Name) (ts : List Name) → length (joins helping w k x t ts) ≡ 1 + help_for (t ∷ ts)
-joins_count helping w k x t [] = refl
-joins_count helping w k x t (a ∷ []) = refl
-joins_count helping w k x t (a ∷ (b ∷ [])) = refl
 joins_count helping w k x t (a ∷ (b ∷ (c ∷ ts))) = omega (arith, joins_count helping w (k + 1) x (helping k) (b ∷ (c ∷ ts)))
+joins_count helping w k x t _ = refl
 
 joined_count : (helping : ℕ → Name) (w k : ℕ) (x : Name) (ts : List Name) → length (joined helping w k x ts) ≡ 1 + help_for ts
 joined_count helping w k x [] = refl

@@ -39,9 +39,8 @@ readable_new ms w (x ∷ ws) sc a wide y h =
     ]
 
 joins_wide : (helping : ℕ → Name) (w k : ℕ) (x t : Name) (ts : List Name) → AreWide w (joins helping w k x t ts)
-joins_wide helping w k x t [] = (refl, tt)
-joins_wide helping w k x t (a ∷ []) = (refl, tt)
 joins_wide helping w k x t (a ∷ (b ∷ ts)) = (refl, joins_wide helping w (k + 1) x (helping k) (b ∷ ts))
+joins_wide helping w k x t _ = (refl, tt)
 
 joined_wide : (helping : ℕ → Name) (w k : ℕ) (x : Name) (ts : List Name) → AreWide w (joined helping w k x ts)
 joined_wide helping w k x [] = (refl, tt)

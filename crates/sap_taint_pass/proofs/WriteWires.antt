@@ -119,9 +119,8 @@ write_wires_names helping w k (m ∷ mems) =
 
 -- a condition of one bit is 1 where it isn't 0
 bit_test : (v a b : ℕ) → v < 2 → (if v == 0 then b else a) ≡ (if v == 1 then a else b)
-bit_test zero a b h = refl
-bit_test (suc zero) a b h = refl
 bit_test (suc (suc v)) a b h = absurd (omega (arith, h))
+bit_test _ a b h = refl
 
 -- the tags of memories take what they should
 pub memories_take : (helping : ℕ → Name) (w k : ℕ) (widths : Name → ℕ) (p u : Valuation) (mems : List Memory) → AllByRecursion (λ m. operand_value p m.enable < 2) mems
