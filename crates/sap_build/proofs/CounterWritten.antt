@@ -74,7 +74,8 @@ place_is_assigned = wait_ends with_next ((codes "out", 8) ∷ []) [] place next_
 output_is_assigned : IsNetlist (waiting [] with_all)
 output_is_assigned = wait_ends with_place [] [] output place_is_assigned refl
 
-next_is_taken : IsNetlist (registered count (assigned output (assigned place (assigned next (declared (codes "n2") (declared (codes "n1") (shown (record { name = codes "count"; kind = kind.Register }) with_output)))))))
+next_is_taken : IsNetlist (registered count
+    (assigned output (assigned place (assigned next (declared (codes "n2") (declared (codes "n1") (shown (record { name = codes "count"; kind = kind.Register }) with_output)))))))
 next_is_taken = edges_are_given with_all output_is_assigned (count ∷ []) [] refl refl ((lit< tt, refl), tt) tt
 
 pub counter_is_netlist : CounterIsNetlist

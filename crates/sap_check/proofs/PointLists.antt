@@ -1,5 +1,5 @@
 -- The points of lists of commands and of states, from a place on.
-use Rattle.sap_lemmas.proofs.Common.{◌≡◌, ℕ, zero, suc, ◌+◌, ◌<◌, ◌≤◌, List, [], ◌∷◌, ◌++◌, length, get_or, drop, map, refl, sym, ap, ◌∙◌, arith, add-one, at_drop_all, at_drop_more, append_assoc, Some, append-nil, map-append, map-map}
+use Rattle.sap_lemmas.proofs.Common.{◌≡◌, ℕ, ◌+◌, ◌<◌, ◌≤◌, List, [], ◌∷◌, ◌++◌, length, get_or, drop, map, refl, sym, ap, ◌∙◌, at_drop_all, at_drop_more, append_assoc, Some, append-nil, map-append, map-map}
 use Rattle.sap_tree.specs.Prelude.{tree_of, simple_points, command_points, block_points, else_points, state_points, Expression, SimpleCommand, Command, if_else, try_then, case_of, ElseBlock, StateTree, Home, command_of, commands_of, block_of, arm_block_of, arms_of, else_of, state_of, states_of}
 use Rattle.sap_tree.specs.declared.syntax.Block.{Block}
 use Rattle.sap_tree.specs.declared.syntax.Arm.{Arm}

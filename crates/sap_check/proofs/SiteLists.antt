@@ -1,5 +1,5 @@
 -- The sites of lists of commands and of states, from a place on.
-use Rattle.sap_lemmas.proofs.Common.{◌≡◌, ℕ, zero, suc, ◌+◌, ◌<◌, ◌≤◌, List, [], ◌∷◌, ◌++◌, length, get_or, drop, refl, sym, ap, ◌∙◌, arith, add-one, at_drop_all, at_drop_more, append_assoc, Some, map, map-append, append-nil}
+use Rattle.sap_lemmas.proofs.Common.{◌≡◌, ℕ, ◌+◌, ◌<◌, ◌≤◌, List, [], ◌∷◌, ◌++◌, length, get_or, drop, refl, sym, ap, ◌∙◌, at_drop_all, at_drop_more, append_assoc, Some, map, map-append, append-nil}
 use Rattle.sap_tree.specs.Prelude.{tree_of, StateTree, command_of, commands_of, block_of, arm_block_of, arms_of, else_of, state_of, states_of}
 use Rattle.sap_tree.specs.declared.syntax.Block.{Block}
 use Rattle.sap_tree.specs.declared.syntax.Arm.{Arm}

@@ -40,7 +40,8 @@ written_more a b i out later below w is = record {
   size_b = w.size_b;
 }
 
-pub all_written : (a b a' b' : List ℕ) (n m : ℕ) (out one two three : List ℕ) → Written a b 16 out → a ≡ a' → b ≡ b' → m ≡ 1 + 6 * n → one ≡ out ++ codes "0@low 0@low *" → two ≡ one ++ decimal m → three ≡ two ++ line_end
+pub all_written : (a b a' b' : List ℕ) (n m : ℕ) (out one two three : List ℕ) → Written a b 16 out → a ≡ a' → b ≡ b' → m ≡ 1 + 6 * n
+    → one ≡ out ++ codes "0@low 0@low *" → two ≡ one ++ decimal m → three ≡ two ++ line_end
     → three ≡ stimulus_text a' b' n
 unfolding stimulus_text
 all_written a b a' b' n m out one two three w is_a is_b is_m first second third =

@@ -87,7 +87,8 @@ abbrev pub AreReadable : {A : Type 0} → Scope → (key : A → Name) → (widt
 AreReadable sc key width list = AllByRecursion (λ a. find sc (key a) ≡ Some (width a)) list
 
 -- inputs and registers can be read before the wires
-first_are_readable : (n : Net) → IsNetlist n → AreReadable (first_readable n) (λ i. i.name) (λ i. i.width) n.inputs × AreReadable (first_readable n) (λ r. r.name) (λ r. r.width) n.registers
+first_are_readable : (n : Net) → IsNetlist n → AreReadable (first_readable n) (λ i. i.name) (λ i. i.width) n.inputs
+    × AreReadable (first_readable n) (λ r. r.name) (λ r. r.width) n.registers
 first_are_readable n rules =
     let P : Name × ℕ → Type 0 = λ d. find (first_readable n) d.0 ≡ Some d.1 in
     let both = all_parts P (map (λ i. (i.name, i.width)) n.inputs) (map (λ r. (r.name, r.width)) n.registers) (values_found (shapes n) (first_readable n) rules.values) in

@@ -35,7 +35,8 @@ pub within_pushed : (others new more : List Step) (is : List Instruction) (i : I
     → IsWithin (length new) i → AllByRecursion (IsWithin (length new)) (is ++ i ∷ [])
 within_pushed others new more is i e within h =
     let le : length others ≤ length new = omega (arith, ap length e, length-append others more) in
-    all_append (IsWithin (length new)) is (i ∷ []) (all_follow (IsWithin (length others)) (IsWithin (length new)) is (λ j. within_more (length others) (length new) j le) within) (h, tt)
+    all_append (IsWithin (length new)) is (i ∷ [])
+    (all_follow (IsWithin (length others)) (IsWithin (length new)) is (λ j. within_more (length others) (length new) j le) within) (h, tt)
 
 -- the step that was put behind the list
 pub last_step : (others new : List Step) (s : Step) (k : ℕ) → new ≡ others ++ s ∷ [] → k ≡ length others → step_at new k ≡ s

@@ -26,7 +26,8 @@ abbrev rows : List ℕ
 rows = 15 ∷ 10 ∷ 12 ∷ 8 ∷ []
 
 -- what is so of each of the four pairs
-pair_cases : (P : Pair → Type 0) → P (pair (codes "low") (codes "a")) → P (pair (codes "low") (codes "b")) → P (pair (codes "a") (codes "high")) → P (pair (codes "b") (codes "high"))
+pair_cases : (P : Pair → Type 0) → P (pair (codes "low") (codes "a")) → P (pair (codes "low") (codes "b"))
+    → P (pair (codes "a") (codes "high")) → P (pair (codes "b") (codes "high"))
     → (p : Pair) → Contains level_pairs p → P p
 pair_cases P h0 h1 h2 h3 p (zero, l, e) = subst P e h0
 pair_cases P h0 h1 h2 h3 p (suc zero, l, e) = subst P e h1

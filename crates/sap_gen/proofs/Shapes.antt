@@ -38,7 +38,12 @@ module _ (es : List Entity) (r t : ℕ) (group : StateList) (siblings : (j : ℕ
   states_shaped a (suc k) =
       none_of _ (states_shape es group [] (states (map (state r t) (range_with_len (a + 1) k))))
       (none_of _ []
-      (none_of (closing_list_faults (rest_of_body r t a 0 r) nowhere) (list_shape es (record { home = record { name = state_name a; kind = enforced (codes "low"); children = no_state }; group = group; above = [] }) (rest_of_body r t a 0 r)) (closes r t a 0 r)
+      (none_of (closing_list_faults (rest_of_body r t a 0 r) nowhere)
+      (list_shape es (record {
+        home = record { name = state_name a; kind = enforced (codes "low"); children = no_state };
+        group = group;
+        above = [];
+      }) (rest_of_body r t a 0 r)) (closes r t a 0 r)
       (shaped es (record { home = record { name = state_name a; kind = enforced (codes "low"); children = no_state }; group = group; above = [] }) r t a 0 r (siblings a))) refl)
       (states_shaped (a + 1) k)
 

@@ -32,11 +32,13 @@ summary_written (Ok x) n number registers states cycles refusals out a b c d e n
     ∙ ap₂ (λ (text : List ℕ) (k : ℕ). text ++ (decimal k ++ codes " states, ")) (s
     ∙ ap₂ (λ (text : List ℕ) (k : ℕ). text ++ (decimal k ++ codes " registers, ")) (q
     ∙ ap₂ (λ (text : List ℕ) (k : ℕ). text ++ (decimal k ++ codes ": ")) p ns) rs) ss) cs)
-    ∙ joined out (codes "gen ") (decimal n) (codes ": ") (decimal (register_count n)) (codes " registers, ") (decimal (state_count n)) (codes " states, ") (decimal (cycle_count n)) (codes " cycles, ")
+    ∙ joined out (codes "gen ") (decimal n) (codes ": ") (decimal (register_count n)) (codes " registers, ") (decimal (state_count n))
+    (codes " states, ") (decimal (cycle_count n)) (codes " cycles, ")
     (decimal refusals) (codes " refusals" ++ 10 ∷ [])
     ∙ ap (λ (text : List ℕ). out ++ text)
     (sym (append_assoc
-    (codes "gen " ++ decimal n ++ codes ": " ++ decimal (register_count n) ++ codes " registers, " ++ decimal (state_count n) ++ codes " states, " ++ decimal (cycle_count n) ++ codes " cycles, " ++ decimal refusals)
+    (codes "gen " ++ decimal n ++ codes ": " ++ decimal (register_count n) ++ codes " registers, " ++ decimal (state_count n)
+    ++ codes " states, " ++ decimal (cycle_count n) ++ codes " cycles, " ++ decimal refusals)
     (codes " refusals") (10 ∷ [])))
 
 design_by_counts : (r t n : ℕ) → r ≡ register_count n → t ≡ state_count n → design_of_counts r t ≡ generated_design n

@@ -34,4 +34,5 @@ pub cut_off : (asked : Asked) (text : List ℕ) (before middle after : Option To
     → Between middle after Untouched → Between before after (IsCutOff asked)
 cut_off asked text None middle after is cut quiet = tt
 cut_off asked text (Some t) middle after is cut quiet =
-    cut_then asked text t (blamed (codes "output") (added 1 (take cut.count text) t)) after is cut.count cut.within refl (subst (λ (o : Option Told). Between o after Untouched) cut.told quiet)
+    cut_then asked text t (blamed (codes "output") (added 1 (take cut.count text) t)) after is cut.count cut.within refl
+    (subst (λ (o : Option Told). Between o after Untouched) cut.told quiet)

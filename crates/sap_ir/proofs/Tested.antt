@@ -12,9 +12,6 @@ use Rattle.sap_ir.specs.Source.{Action, set, put, Command, Source, readable, sha
 use Rattle.sap_ir.specs.IsGuarded.{TermFine, assignable, ActionFine, CommandFine, variable_names, declared, is_helping, IsPlainVar, IsRegisterVar, IsStore, IsGuarded}
 use Rattle.sap_ir.specs.Test.{is_width, is_found, of_width, of_shape, count_fits, term_is_fine, value_is_fine, action_is_fine, command_is_fine, is_plain_var, is_register_var, is_power, is_store, is_guarded}
 
-four : (a b c d : Bool) → (a && b && c && d) ≡ true → (a ≡ true) × (b ≡ true) × (c ≡ true) × (d ≡ true)
-four a b c d h = let p = and_parts (a && b && c) d h in let q = three_parts a b c p.0 in (q.0, q.1, q.2, p.1)
-
 six : (a b c d e f : Bool) → (a && b && c && d && e && f) ≡ true → (a ≡ true) × (b ≡ true) × (c ≡ true) × (d ≡ true) × (e ≡ true) × (f ≡ true)
 six a b c d e f h = let p = and_parts (a && b && c && d && e) f h in let q = five_parts a b c d e p.0 in (q.0, q.1, q.2, q.3, q.4, p.1)
 

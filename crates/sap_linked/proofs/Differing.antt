@@ -185,8 +185,22 @@ module _ (s : NamedSystem) (nets : ℕ → Net) (fit : NamesFit s) (good : Wires
       let two = and_parts (is_input (world (part_at s i).design) r.0) (not (is_fed s.wires (endpoint i r.0))) r.1 in
       let input : is_input (world (design_at s i)) r.0 ≡ true = subst (λ (d : Named). is_input (world d) r.0 ≡ true) (sym (same_design i b.low)) two.0 in
       elim r.2 [
-        | inl e ↦ record { letter = byte "v"; end = endpoint i r.0; is = record { low = b.low; input = input }; holds = two.1; known = inl (inl refl); named = b.behind ∙ ap (in_part (part_at s i).name) e }
-        | inr e ↦ record { letter = byte "t"; end = endpoint i r.0; is = record { low = b.low; input = input }; holds = two.1; known = inl (inr refl); named = b.behind ∙ ap (in_part (part_at s i).name) e }
+        | inl e ↦ record {
+          letter = byte "v";
+          end = endpoint i r.0;
+          is = record { low = b.low; input = input };
+          holds = two.1;
+          known = inl (inl refl);
+          named = b.behind ∙ ap (in_part (part_at s i).name) e;
+        }
+        | inr e ↦ record {
+          letter = byte "t";
+          end = endpoint i r.0;
+          is = record { low = b.low; input = input };
+          holds = two.1;
+          known = inl (inr refl);
+          named = b.behind ∙ ap (in_part (part_at s i).name) e;
+        }
       ]
 
   fed_more : (v : SystemWire) (ws some : List SystemWire) → AllByRecursion (λ w. is_fed ws w.to ≡ true) some → AllByRecursion (λ w. is_fed (v ∷ ws) w.to ≡ true) some

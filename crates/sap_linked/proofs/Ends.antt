@@ -95,7 +95,8 @@ module _ (s : NamedSystem) (nets : ℕ → Net) (fit : NamesFit s) (each : (i : 
 
   pub one_end : (P Q : Endpoint → Type 0) (z : Name) (a : IsEnd P z) (b : IsEnd Q z) → a.end ≡ b.end
   one_end P Q z a b =
-      let r = one_part s fit a.end.part b.end.part (a.letter ∷ (byte "_" ∷ name (part_at s a.end.part).design a.end.entity)) (b.letter ∷ (byte "_" ∷ name (part_at s b.end.part).design b.end.entity)) a.is.low b.is.low (long a.letter a.end) (long b.letter b.end) (sym a.named ∙ b.named) in
+      let r = one_part s fit a.end.part b.end.part (a.letter ∷ (byte "_" ∷ name (part_at s a.end.part).design a.end.entity))
+      (b.letter ∷ (byte "_" ∷ name (part_at s b.end.part).design b.end.entity)) a.is.low b.is.low (long a.letter a.end) (long b.letter b.end) (sym a.named ∙ b.named) in
       let names : name (part_at s a.end.part).design a.end.entity ≡ name (part_at s a.end.part).design b.end.entity =
       subst (λ (i : ℕ). name (part_at s a.end.part).design a.end.entity ≡ name (part_at s i).design b.end.entity) (sym r.0) (tails (tails r.1)) in
       let other : is_input (world_at y a.end.part) b.end.entity ≡ true = subst (λ (i : ℕ). is_input (world_at y i) b.end.entity ≡ true) (sym r.0) b.is.input in
@@ -115,15 +116,18 @@ module _ (s : NamedSystem) (nets : ℕ → Net) (fit : NamesFit s) (each : (i : 
     where
       by_letter : (c : ℕ) (e : Endpoint) → IsInput e → IsLetter c → is_among (c ∷ (byte "_" ∷ name (part_at s e.part).design e.entity)) (ns e.part) ≡ true → ⊥
       by_letter c e is (inl (inl v)) h =
-          others e.part is.low (value_name (name (design_at s e.part) e.entity)) (subst (λ (b : ℕ). is_among (b ∷ (byte "_" ∷ name (part_at s e.part).design e.entity)) (ns e.part) ≡ true) v h)
+          others e.part is.low (value_name (name (design_at s e.part) e.entity))
+          (subst (λ (b : ℕ). is_among (b ∷ (byte "_" ∷ name (part_at s e.part).design e.entity)) (ns e.part) ≡ true) v h)
           (found_among (λ (i : Input). i.name) (λ i. i.width) (nets e.part).inputs (value_name (name (design_at s e.part) e.entity))
           _ ((interface_at e.part is.low).declares.inputs e.entity is.input).0)
       by_letter c e is (inl (inr t)) h =
-          others e.part is.low (tag_name (name (design_at s e.part) e.entity)) (subst (λ (b : ℕ). is_among (b ∷ (byte "_" ∷ name (part_at s e.part).design e.entity)) (ns e.part) ≡ true) t h)
+          others e.part is.low (tag_name (name (design_at s e.part) e.entity))
+          (subst (λ (b : ℕ). is_among (b ∷ (byte "_" ∷ name (part_at s e.part).design e.entity)) (ns e.part) ≡ true) t h)
           (found_among (λ (i : Input). i.name) (λ i. i.width) (nets e.part).inputs (tag_name (name (design_at s e.part) e.entity))
           _ ((interface_at e.part is.low).declares.inputs e.entity is.input).1)
       by_letter c e is (inr f) h =
-          no_feed (design_at s e.part) (width_of s.order) (part_at s e.part).sites (nets e.part) (interface_at e.part is.low) c (c ∷ (byte "_" ∷ name (part_at s e.part).design e.entity))
+          no_feed (design_at s e.part) (width_of s.order) (part_at s e.part).sites (nets e.part) (interface_at e.part is.low) c
+          (c ∷ (byte "_" ∷ name (part_at s e.part).design e.entity))
           (within e.part is.low (c ∷ (byte "_" ∷ name (part_at s e.part).design e.entity)) h) f (byte "_" ∷ name (part_at s e.part).design e.entity, refl)
 
   -- ---- fed inputs

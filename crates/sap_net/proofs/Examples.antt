@@ -105,7 +105,12 @@ swap =
       ports = record { name = codes "v_x"; kind = kind.Register } ∷ record { name = codes "v_y"; kind = kind.Register } ∷ [];
       inputs = [];
       wires = [];
-      registers = record { name = codes "v_x"; width = 8; start = 1; next = Named (codes "v_y") } ∷ record { name = codes "v_y"; width = 8; start = 2; next = Named (codes "v_x") } ∷ [];
+      registers = record { name = codes "v_x"; width = 8; start = 1; next = Named (codes "v_y") } ∷ record {
+        name = codes "v_y";
+        width = 8;
+        start = 2;
+        next = Named (codes "v_x");
+      } ∷ [];
       memories = [];
     }
 

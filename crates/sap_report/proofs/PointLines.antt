@@ -26,7 +26,8 @@ pub text-some : (names : List (List ℕ)) → (length names == 0) ≡ false → 
 text-some [] h = absurd (cc h)
 text-some (n ∷ ns) h = refl
 
-pub names-none : (names : List (List ℕ)) (b : Bool) (old mid new : List ℕ) → b ≡ (length names == 0) → b ≡ true → mid ≡ old ++ each_name names → new ≡ mid ++ codes " -" → new ≡ old ++ names_text names
+pub names-none : (names : List (List ℕ)) (b : Bool) (old mid new : List ℕ) → b ≡ (length names == 0) → b ≡ true
+    → mid ≡ old ++ each_name names → new ≡ mid ++ codes " -" → new ≡ old ++ names_text names
 names-none names b old mid new e t h k =
     let none : (length names == 0) ≡ true = sym e ∙ t in
     k ∙ ap (λ (l : List ℕ). l ++ codes " -") (h ∙ ap (λ (l : List ℕ). old ++ l) (each-none names none)) ∙ append_assoc old [] (codes " -")

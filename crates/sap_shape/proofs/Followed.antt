@@ -261,13 +261,15 @@ mutual
   command_follows (try k place b) =
       let handled = fork_follows no_stretch (of_block b) nothing_follows (block_follows b) in
       let whole = in_turn_follows (one k) (fork no_stretch (of_block b)) (one_follows k) handled in
-      reworded (in_turn (one k) (fork no_stretch (of_block b))) (Through (try k place b)) (UpToFall (try k place b)) (or_next k (ThroughBlock b)) (from_or_next k (ThroughBlock b)) (or_next_fall k (UpToFallBlock b))
+      reworded (in_turn (one k) (fork no_stretch (of_block b))) (Through (try k place b)) (UpToFall (try k place b))
+      (or_next k (ThroughBlock b)) (from_or_next k (ThroughBlock b)) (or_next_fall k (UpToFallBlock b))
       (from_or_next_fall k (UpToFallBlock b)) whole
   command_follows (if_else place e b other) = fork_follows (of_block b) (of_else other) (block_follows b) (else_follows other)
   command_follows (try_then k place a b) =
       let either_one = fork_follows (of_block a) (of_block b) (block_follows a) (block_follows b) in
       let whole = in_turn_follows (one k) (fork (of_block a) (of_block b)) (one_follows k) either_one in
-      reworded (in_turn (one k) (fork (of_block a) (of_block b))) (Through (try_then k place a b)) (UpToFall (try_then k place a b)) (next_either k (ThroughBlock a) (ThroughBlock b))
+      reworded (in_turn (one k) (fork (of_block a) (of_block b))) (Through (try_then k place a b)) (UpToFall (try_then k place a b))
+      (next_either k (ThroughBlock a) (ThroughBlock b))
       (from_next_either k (ThroughBlock a) (ThroughBlock b)) (next_either_fall k (UpToFallBlock a) (UpToFallBlock b))
       (from_next_either_fall k (UpToFallBlock a) (UpToFallBlock b)) whole
   command_follows (case_of place e arms) = arms_follow arms

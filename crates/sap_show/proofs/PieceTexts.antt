@@ -202,7 +202,8 @@ mutual
   command_says (if_else place x one other) level depth rest =
       margin_says level (word (r.Command depth) w.If ∷ space ∷ sign r.Plain s.OpenParen
       ∷ expression x (sign r.Plain s.CloseParen ∷ block one level depth (else_part other level depth (line ∷ rest))))
-      ∙ cat (spaces level) (codes "if (" ++ (expression_text x ++ (codes ")" ++ (block_text (spaces level) one ++ (else_text (spaces level) other ++ codes "\n"))))) (bytes_of rest) _
+      ∙ cat (spaces level) (codes "if (" ++ (expression_text x
+      ++ (codes ")" ++ (block_text (spaces level) one ++ (else_text (spaces level) other ++ codes "\n"))))) (bytes_of rest) _
       (ap (λ z. codes "if (" ++ z)
       (expression_says x (sign r.Plain s.CloseParen ∷ block one level depth (else_part other level depth (line ∷ rest)))
       ∙ cat (expression_text x) (codes ")" ++ (block_text (spaces level) one ++ (else_text (spaces level) other ++ codes "\n"))) (bytes_of rest) _
@@ -350,7 +351,8 @@ mutual
       ∙ cat (states_text m children) foot (bytes_of rest) _
       (margin_says level (sign r.Plain s.CloseBrace ∷ line ∷ rest) ∙ sym (append_assoc (spaces level) (codes "}\n") (bytes_of rest))))))
       ∙ ap (λ v. spaces level ++ ((head_text n.name x ++ (body_text v inner ++ (states_text v children ++ foot))) ++ bytes_of rest)) (sym (deeper level))
-      ∙ sym (append_assoc (spaces level) (head_text n.name x ++ (body_text (spaces level ++ codes "  ") inner ++ (states_text (spaces level ++ codes "  ") children ++ foot))) (bytes_of rest))
+      ∙ sym (append_assoc (spaces level) (head_text n.name x
+      ++ (body_text (spaces level ++ codes "  ") inner ++ (states_text (spaces level ++ codes "  ") children ++ foot))) (bytes_of rest))
 
   states_say : (xs : StateList) (level depth : ℕ) → Says (states xs level depth) (states_text (spaces level) xs)
   states_say no_state level depth rest = refl

@@ -225,7 +225,8 @@ pub if_grows : (margin : List ℕ) (whole : Syntax.Command) (place : Place) (x :
     → whole ≡ Syntax.if_else place x one other → a ≡ old ++ margin → b ≡ a ++ (codes "if (" ++ (expression_text x ++ codes ")")) → c ≡ b ++ block_text margin one
     → d ≡ c ++ else_text margin other → d ++ codes "\n" ≡ old ++ command_text margin whole
 if_grows margin whole place x one other old a b c d w h i j k =
-    grow_seven old a (a ++ codes "if (") ((a ++ codes "if (") ++ expression_text x) b c d (d ++ codes "\n") margin (codes "if (") (expression_text x) (codes ")") (block_text margin one)
+    grow_seven old a (a ++ codes "if (") ((a ++ codes "if (") ++ expression_text x) b c d (d ++ codes "\n") margin (codes "if (")
+    (expression_text x) (codes ")") (block_text margin one)
     (else_text margin other) (codes "\n") _ h refl refl (three_apart a b (codes "if (") (expression_text x) (codes ")") i) j k refl
     (ap (command_text margin) w ∙ text_if margin place x one other)
 
@@ -239,7 +240,8 @@ pub decided_grows : (margin : List ℕ) (whole : Syntax.Command) (x : Syntax.Sim
     → whole ≡ Syntax.try_then x place one other → a ≡ old ++ margin → b ≡ a ++ (simple_text x ++ codes " then") → c ≡ b ++ block_text margin one → d ≡ c ++ codes " otherwise"
     → e ≡ d ++ block_text margin other → e ++ codes "\n" ≡ old ++ command_text margin whole
 decided_grows margin whole x place one other old a b c d e w h i j k l =
-    grow_seven old a (a ++ simple_text x) b c d e (e ++ codes "\n") margin (simple_text x) (codes " then") (block_text margin one) (codes " otherwise") (block_text margin other) (codes "\n") _
+    grow_seven old a (a ++ simple_text x) b c d e (e ++ codes "\n") margin (simple_text x) (codes " then") (block_text margin one)
+    (codes " otherwise") (block_text margin other) (codes "\n") _
     h refl (two_apart a b (simple_text x) (codes " then") i) j k l refl
     (ap (command_text margin) w ∙ text_decided margin x place one other)
 
@@ -278,7 +280,8 @@ pub case_grows : (margin one two : List ℕ) (whole : Syntax.Command) (place : P
     → d ≡ a ++ (codes "case (" ++ (expression_text x ++ codes ") {\n")) → e ≡ d ++ list_arms_text one listed → f ≡ e ++ arms_text two (Syntax.last_arm last) → g ≡ f ++ margin
     → g ++ codes "}\n" ≡ old ++ command_text margin whole
 case_grows margin one two whole place x arms listed last old a d e f g w o t s h i l m n =
-    grow_eight old a (a ++ codes "case (") ((a ++ codes "case (") ++ expression_text x) d e f g (g ++ codes "}\n") margin (codes "case (") (expression_text x) (codes ") {\n") (list_arms_text (margin ++ codes "  ") arms)
+    grow_eight old a (a ++ codes "case (") ((a ++ codes "case (") ++ expression_text x) d e f g (g ++ codes "}\n") margin (codes "case (")
+    (expression_text x) (codes ") {\n") (list_arms_text (margin ++ codes "  ") arms)
     (arms_text (margin ++ codes "  ") (Syntax.last_arm last)) margin (codes "}\n") _ h refl refl (three_apart a d (codes "case (") (expression_text x) (codes ") {\n") i)
     (l ∙ ap (λ z. d ++ list_arms_text z listed) o ∙ ap (λ z. d ++ list_arms_text (margin ++ codes "  ") z) s)
     (m ∙ ap (λ z. e ++ arms_text z (Syntax.last_arm last)) t) n refl (ap (command_text margin) w ∙ text_case margin place x arms last)

@@ -432,7 +432,8 @@ begins_state : (n depth : ℕ) → n + 1 ≤ most_states → depth ≤ most_nest
 begins_state n depth h m = ap (λ o. o or_else above most_nesting depth l.Nesting) (not_above most_states (n + 1) l.States h) ∙ not_above most_nesting depth l.Nesting m
 
 mutual
-  unfolding is_state is_command state_count states_count state_commands states_commands state_depth states_depth command_count block_count else_count arms_count list_count command_depth block_depth else_depth arms_depth list_depth
+  unfolding is_state is_command state_count states_count state_commands states_commands state_depth states_depth command_count block_count
+      else_count arms_count list_count command_depth block_depth else_depth arms_depth list_depth
 
   state_within : (version : Version) (x : StateTree) (level depth : ℕ) → is_state version x ≡ true
       → (c : Counts) (i j n m : ℕ) (rest : List Piece) → j ≡ i + state_count x → j ≤ most_states

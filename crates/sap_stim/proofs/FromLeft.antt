@@ -58,7 +58,8 @@ fields_before line k piece h last starred =
     ∙ last.1
 
 -- what a field gives, where it stands in a text that is another's end
-pub field_given : (ls : Levels) (fs : List Field) (k : ℕ) (d : Field) (x : Given) (rest s : List ℕ) → rest ≡ s → Ok x ≡ field_of ls (get_or fs k d) (before_first (is_mark 32) (line rest))
+pub field_given : (ls : Levels) (fs : List Field) (k : ℕ) (d : Field) (x : Given) (rest s : List ℕ) → rest ≡ s
+    → Ok x ≡ field_of ls (get_or fs k d) (before_first (is_mark 32) (line rest))
     → Ok x ≡ field_of ls (get_or fs k d) (before_first (is_mark 32) (line s))
 field_given ls fs k d x rest s same e = e ∙ ap (λ (l : List ℕ). field_of ls (get_or fs k d) (before_first (is_mark 32) (line l))) same
 

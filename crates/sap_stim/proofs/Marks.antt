@@ -35,7 +35,8 @@ pub mark_behind : (m : ℕ) (s : List ℕ) (k : ℕ) → k ≤ position_or_len (
 mark_behind m s zero h = omega arith
 mark_behind m [] (suc k) h = absurd (omega arith)
 mark_behind m (b ∷ bs) (suc k) h =
-    elim (eqb b m) as (λ t. suc k ≤ cond (not t) (1 + position_or_len (is_mark m) bs) 0 → cond (not t) (1 + position_or_len (is_mark m) bs) 0 ≡ suc k + position_or_len (is_mark m) (drop k bs)) [
+    elim (eqb b m) as (λ t. suc k ≤ cond (not t) (1 + position_or_len (is_mark m) bs) 0
+    → cond (not t) (1 + position_or_len (is_mark m) bs) 0 ≡ suc k + position_or_len (is_mark m) (drop k bs)) [
       | true ↦ λ small. absurd (omega arith)
       | false ↦ λ small. let later = mark_behind m bs k (omega arith) in omega arith
     ] h
@@ -67,7 +68,8 @@ kind_within P m none (b ∷ bs) (suc k) h all =
     let later = kind_within P m none bs k (omega arith) p.1 in
     omega (arith, other_first m b bs other, later)
 
-pub kind_inside : (P : ℕ → Bool) (m : ℕ) → P m ≡ false → (s : List ℕ) (k : ℕ) → k < length s → list_all P (take k s) ≡ true → (get_or s k 0 ≡ m → ⊥) → k < position_or_len (is_mark m) s
+pub kind_inside : (P : ℕ → Bool) (m : ℕ) → P m ≡ false → (s : List ℕ) (k : ℕ) → k < length s → list_all P (take k s) ≡ true
+    → (get_or s k 0 ≡ m → ⊥) → k < position_or_len (is_mark m) s
 kind_inside P m none s k h all other =
     elim (cases_lt k (position_or_len (is_mark m) s)) [
       | inl inside ↦ inside
@@ -101,7 +103,8 @@ field_ends s k h (inr (inr lf)) =
     ]
 
 -- and not before another byte
-pub field_more : (s : List ℕ) (k : ℕ) → k < length s → k ≤ position_or_len (is_mark 32) (line s) → (get_or s k 0 ≡ 32 → ⊥) → (get_or s k 0 ≡ 10 → ⊥) → k + 1 ≤ position_or_len (is_mark 32) (line s)
+pub field_more : (s : List ℕ) (k : ℕ) → k < length s → k ≤ position_or_len (is_mark 32) (line s) → (get_or s k 0 ≡ 32 → ⊥)
+    → (get_or s k 0 ≡ 10 → ⊥) → k + 1 ≤ position_or_len (is_mark 32) (line s)
 field_more s k h so_far space lf =
     elim (cases_lt k (position_or_len (is_mark 32) (line s))) [
       | inl inside ↦ omega (arith, inside)

@@ -63,7 +63,8 @@ next_with_tens n (inr more) low small =
     decimal_step (n + 1) (omega (arith, more)) small ∙ ap (λ k. decimal k ++ (48 + (n + 1) % 10) ∷ []) (omega (arith, low))
 
 -- what stands before the last digit of a number stands before that of the next one too, where that digit isn't 9
-pub then_next : (n : ℕ) (start rest : List ℕ) → n % 10 < 9 → n + 1 < 2 ^ 64 → start ++ (48 + n % 10) ∷ [] ≡ rest ++ decimal n → start ++ (48 + (n + 1) % 10) ∷ [] ≡ rest ++ decimal (n + 1)
+pub then_next : (n : ℕ) (start rest : List ℕ) → n % 10 < 9 → n + 1 < 2 ^ 64 → start ++ (48 + n % 10) ∷ [] ≡ rest ++ decimal n
+    → start ++ (48 + (n + 1) % 10) ∷ [] ≡ rest ++ decimal (n + 1)
 then_next n start rest low small p =
     let some = cases_lt n 10 in
     other_last start rest (tens_of n some) (48 + n % 10) (48 + (n + 1) % 10) (p ∙ ap (λ l. rest ++ l) (with_tens n some (omega (arith, small))))

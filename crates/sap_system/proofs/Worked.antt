@@ -164,7 +164,8 @@ abbrev same_parts : ℕ → List Part
 same_parts zero = []
 same_parts (suc n) = part (codes "p") [] ∷ same_parts n
 
-nine_parts_read : parse_document (codes "parts = [['p',''],['p',''],['p',''],['p',''],['p',''],['p',''],['p',''],['p',''],['p','']]\nwires = []") ≡ Some (document_of (same_items 9) no_items)
+nine_parts_read : parse_document (codes "parts = [['p',''],['p',''],['p',''],['p',''],['p',''],['p',''],['p',''],['p',''],['p','']]\nwires = []")
+    ≡ Some (document_of (same_items 9) no_items)
 unfolding toml_on_literals
 nine_parts_read = refl
 
@@ -197,7 +198,8 @@ keyword_told = (
   (record { some = lit≤ tt; few = lit≤ tt }, (0, record { here = bad_at keyword_part 0 (lit≤ tt) refl; none_before = λ j low bad. absurd (omega (arith, low)) }, refl)),
 )
 
-underscore_read : parse_document (codes "parts = [['p', 'a'], ['q_r', 'b']]\nwires = []") ≡ Some (document_of (item (pair (codes "p") (codes "a")) (item (pair (codes "q_r") (codes "b")) no_items)) no_items)
+underscore_read : parse_document (codes "parts = [['p', 'a'], ['q_r', 'b']]\nwires = []")
+    ≡ Some (document_of (item (pair (codes "p") (codes "a")) (item (pair (codes "q_r") (codes "b")) no_items)) no_items)
 unfolding toml_on_literals
 underscore_read = refl
 
@@ -215,7 +217,8 @@ underscore_told = (
   (record { some = lit≤ tt; few = lit≤ tt }, (1, record { here = bad_at underscore_parts 1 (lit≤ tt) refl; none_before = first_sound underscore_parts refl }, refl)),
 )
 
-twice_read : parse_document (codes "parts = [['p', 'a'], ['p', 'b'], ['', 'c']]\nwires = []") ≡ Some (document_of (item (pair (codes "p") (codes "a")) (item (pair (codes "p") (codes "b")) (item (pair [] (codes "c")) no_items))) no_items)
+twice_read : parse_document (codes "parts = [['p', 'a'], ['p', 'b'], ['', 'c']]\nwires = []")
+    ≡ Some (document_of (item (pair (codes "p") (codes "a")) (item (pair (codes "p") (codes "b")) (item (pair [] (codes "c")) no_items))) no_items)
 unfolding toml_on_literals
 twice_read = refl
 

@@ -18,7 +18,8 @@ meant text =
     else if bytes_eq (take 2 text) (codes "q.") then what_is entities_of_q (drop 2 text)
     else None
 
-meant_in : (text : List ℕ) (part : NamedPart) (entity : List ℕ) (d : Declared) (i : ℕ) → slice_get p_and_q.parts i ≡ Some part → text ≡ part.name ++ codes "." ++ entity → what_is part.entities entity ≡ Some d → meant text ≡ Some d
+meant_in : (text : List ℕ) (part : NamedPart) (entity : List ℕ) (d : Declared) (i : ℕ) → slice_get p_and_q.parts i ≡ Some part
+    → text ≡ part.name ++ codes "." ++ entity → what_is part.entities entity ≡ Some d → meant text ≡ Some d
 meant_in text part entity d zero is spelled stands =
     let same : part_p ≡ part = some_unique (Some part_p) part_p part refl is in
     let known : what_is entities_of_p entity ≡ Some d = subst (λ (p : NamedPart). what_is p.entities entity ≡ Some d) (sym same) stands in

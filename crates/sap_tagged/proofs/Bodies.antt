@@ -268,7 +268,8 @@ module _ (d : Setting) (s : Source) (h : Declares d s) (fixed group : List Name)
     -- an effect, or an effect and an accepted part, and what a refusal leads to
     tried_fine : (p k : ℕ) (t : Step) (hangs : ℕ → Bool) (done handler : Body) → IsWire d s p d.tag → StepWires d s k → Hangs d.world hangs
         → AllSites (sites.step_sites d.world sp.state sp.children t)
-        → FineStep d.world q sp.children t → SizedStep d.world t → RangedStep d.world t → StepConditions d.world t → Good done → Good handler → Good (tried d sp p k t hangs done handler)
+        → FineStep d.world q sp.children t → SizedStep d.world t → RangedStep d.world t → StepConditions d.world t → Good done
+        → Good handler → Good (tried d sp p k t hangs done handler)
     tried_fine p k t hangs done handler pc ws hs site f z r c e g =
         looks_fine p k t _ pc ws f z r c
         (raises_fine hangs (k + 1) _ hs ws.1

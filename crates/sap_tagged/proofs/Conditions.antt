@@ -2,7 +2,7 @@
 use Rattle.std.proofs.Common as common
 use Rattle.sap_lemmas.proofs.Common.{◌≡◌, ℕ, ◌+◌, List, [], length, Bool, not, ◌&&◌, Option, Some, refl, inl, inr, eqb, cases_Bool}
 use Rattle.sap_tree.specs.Syntax as tree
-use Rattle.sap_tree.specs.Syntax.{Expression, literal, sized_literal, variable, cell_at, unary_of, binary_of, choice, slice, concat, zero_extend, Expressions, no_part, and_part}
+use Rattle.sap_tree.specs.Syntax.{Expression, cell_at, unary_of, binary_of, choice, slice, concat, zero_extend, Expressions, no_part, and_part}
 use Rattle.sap_names.specs.Prelude.{what_is, use_faults, name_faults, fault_if, unsettled, expression_faults, parts_faults, tag_faults, tags_faults, simple_faults, block_faults, kind_faults, state_faults, states_faults, own, own_parts, register_width, cell_width, index_width, sliced, extended, family, asked_left, asked_right, asked_one, is_sound, all_sound}
 use Rattle.sap_names.specs.declared.entity.Entity.{Entity}
 use Rattle.sap_names.specs.declared.kind.Declared.{Declared}

@@ -180,7 +180,8 @@ module _ (d : Named) (tag sites : ℕ) (design : Design d tag sites) where
       let wires = map (λ (v : Var). (v.name, v.width)) src.wires in
       readable_width src (key_name d (value_key x)) (width w x)
       (found_first (inputs ++ registers) wires (key_name d (value_key x)) (width w x)
-      (found_first inputs registers (key_name d (value_key x)) (width w x) (find_by (λ (v : Var). v.name) (λ v. v.width) src.inputs (value_var d x 0) inputs_once (in_input x i l))))
+      (found_first inputs registers (key_name d (value_key x)) (width w x)
+      (find_by (λ (v : Var). v.name) (λ v. v.width) src.inputs (value_var d x 0) inputs_once (in_input x i l))))
 
   not_input_name : (v : Var) → In src.registers v → is_among v.name input_names ≡ false
   not_input_name v i =
@@ -194,7 +195,8 @@ module _ (d : Named) (tag sites : ℕ) (design : Design d tag sites) where
       let wires = map (λ (v : Var). (v.name, v.width)) src.wires in
       readable_width src v.name v.width
       (found_first (inputs ++ registers) wires v.name v.width
-      (found_second inputs registers v.name (not_found (λ (v : Var). v.name) (λ v. v.width) src.inputs v.name (not_input_name v i)) ∙ find_by (λ (v : Var). v.name) (λ v. v.width) src.registers v registers_once i))
+      (found_second inputs registers v.name (not_found (λ (v : Var). v.name) (λ v. v.width) src.inputs v.name (not_input_name v i))
+      ∙ find_by (λ (v : Var). v.name) (λ v. v.width) src.registers v registers_once i))
 
   memory_width : (m : ℕ) → is_memory w m ≡ true → widths (key_name d (value_key m)) ≡ width w m
   memory_width m h =

@@ -28,7 +28,8 @@ other_by : (a b : Key) (f : Key → ℕ) → (f a ≡ f b → ⊥) → Other a b
 other_by a b f n = false_from_ne_true (same a b) (λ e. n (ap f (same_is a b e)))
 
 -- two lists apart by a number of each key
-pub lists_apart : (f : Key → ℕ) (c : ℕ) (xs ys : List Key) → AllByRecursion (λ a. f a ≡ c) xs → AllByRecursion (λ b. suc c ≤ f b) ys → AllByRecursion (λ a. AllByRecursion (Other a) ys) xs
+pub lists_apart : (f : Key → ℕ) (c : ℕ) (xs ys : List Key) → AllByRecursion (λ a. f a ≡ c) xs → AllByRecursion (λ b. suc c ≤ f b) ys
+    → AllByRecursion (λ a. AllByRecursion (Other a) ys) xs
 lists_apart f c xs ys h k =
     all_follow (λ a. f a ≡ c) (λ a. AllByRecursion (Other a) ys) xs (λ a e. all_follow (λ b. suc c ≤ f b) (Other a) ys (λ b l. other_by a b f (λ i. clash (f a) (f b) e l i)) k) h
   where
@@ -60,7 +61,8 @@ if_once : (b : Bool) (ks : List Key) → OnceEach ks → OnceEach (if b then ks 
 if_once true ks h = h
 if_once false ks h = tt
 
-entities_from : (picks : ℕ → Bool) (of : ℕ → List Key) → ((x : ℕ) → AllByRecursion (IndexIs x) (of x)) → (x : ℕ) (es : List Entity) → AllByRecursion (IndexFrom x) (for_entities picks of x es)
+entities_from : (picks : ℕ → Bool) (of : ℕ → List Key) → ((x : ℕ) → AllByRecursion (IndexIs x) (of x)) → (x : ℕ) (es : List Entity)
+    → AllByRecursion (IndexFrom x) (for_entities picks of x es)
 entities_from picks of f x [] = tt
 entities_from picks of f x (e ∷ es) =
     all_append (IndexFrom x) (if picks x then of x else []) (for_entities picks of (x + 1) es)
@@ -373,7 +375,8 @@ module _ (d : Named) (tag sites : ℕ) (names : NamesApart d) where
       if_other false f e = (f e, tt)
 
   -- seats of entities come before the root's
-  seats_list : (x : ℕ) (es : List Entity) → x + length es ≤ root (world d) → AllByRecursion (λ a. list_of a ≡ 3) (for_entities (λ p. nat_lt 0 (children (world d) p)) seat_keys x es)
+  seats_list : (x : ℕ) (es : List Entity) → x + length es ≤ root (world d)
+      → AllByRecursion (λ a. list_of a ≡ 3) (for_entities (λ p. nat_lt 0 (children (world d) p)) seat_keys x es)
   seats_list x [] l = tt
   seats_list x (e ∷ es) l =
       all_append (λ a. list_of a ≡ 3) (if nat_lt 0 (children (world d) x) then seat_keys x else []) (for_entities (λ p. nat_lt 0 (children (world d) p)) seat_keys (x + 1) es)

@@ -50,7 +50,8 @@ module _ (d : Setting) (apart : (a b : Key) → bytes_eq (d.name a) (d.name b) �
     | inr e ↦ rw e (not_among P Q f n h ys k.1)
   ]
 
-  distinct_join : (P Q : ℕ → Bool) → ((m : ℕ) → (P m && Q m) ≡ false) → (xs ys : List Name) → AreDistinct xs → AllByRecursion (OfMemory d P) xs → AreDistinct ys → AllByRecursion (OfMemory d Q) ys → AreDistinct (xs ++ ys)
+  distinct_join : (P Q : ℕ → Bool) → ((m : ℕ) → (P m && Q m) ≡ false) → (xs ys : List Name) → AreDistinct xs
+      → AllByRecursion (OfMemory d P) xs → AreDistinct ys → AllByRecursion (OfMemory d Q) ys → AreDistinct (xs ++ ys)
   distinct_join P Q f [] ys o h p k = p
   distinct_join P Q f (x ∷ xs) ys o h p k = (outside x xs o.0 (not_among P Q f x h.0 ys k), distinct_join P Q f xs ys o.1 h.1 p k)
     where
@@ -136,7 +137,8 @@ module _ (d : Setting) (apart : (a b : Key) → bytes_eq (d.name a) (d.name b) �
       ]
       effect_writes sp k (retag_cell site m j n) o g = two_written (step_reaching reach (retag_cell site m j n)) m (eq-eqb m m refl)
       effect_writes sp k (go_to site target) o g0 =
-          sweep_holds d (Writes (step_reaching reach (go_to site target))) (parts (step_reaching reach (go_to site target))) tag_key (resets d.world target) (λ x. bits d d.world.order.bottom) 0 (root d.world)
+          sweep_holds d (Writes (step_reaching reach (go_to site target))) (parts (step_reaching reach (go_to site target))) tag_key
+          (resets d.world target) (λ x. bits d d.world.order.bottom) 0 (root d.world)
           (if is_dynamic d.world target then gives d (tag_key target) (var d (wire_key (k + 3))) (goto (d.state_name target) stop) else goto (d.state_name target) stop)
           (λ g. elim (cases_Bool (is_dynamic d.world target)) [
             | inl i ↦ rw i (written_none (step_reaching reach (go_to site target)))
@@ -193,7 +195,8 @@ module _ (d : Setting) (apart : (a b : Key) → bytes_eq (d.name a) (d.name b) �
             writes_more (block_reaching reach b) (arms_reaching reach (and_arm constants b arms)) (λ m h. or_left (block_reaching reach b m) (arms_reaching reach arms m) h)
                 (block_plain d sp p k b) (block_writes_once grp e p k b o.0),
             all_follow (Writes (arms_reaching reach arms)) (Writes (arms_reaching reach (and_arm constants b arms))) (arms_plain d sp p (k + wires_block b) arms)
-                (writes_more (arms_reaching reach arms) (arms_reaching reach (and_arm constants b arms)) (λ m h. or_right (block_reaching reach b m) (arms_reaching reach arms m) h))
+                (writes_more (arms_reaching reach arms) (arms_reaching reach (and_arm constants b arms))
+                (λ m h. or_right (block_reaching reach b m) (arms_reaching reach arms m) h))
                 (arms_write_once grp e p (k + wires_block b) arms o.1),
           )
 

@@ -166,7 +166,8 @@ module _ (d : Named) (tag sites : ℕ) (design : Design d tag sites) (fit : Fitt
     seats = λ q h. register_found (seat_var d q) (in_seat d tag sites design q h);
     firsts = λ m h. wire_found (first_wire m) (in_first m h);
     inners = λ x l h. wire_found (inner_wire x) (in_inner x l h);
-    stores = λ m h. find_by (λ (z : MemoryVariable). z.name) (λ z. (z.width, z.depth)) src.memories (memory_of d m) (stores_once d tag sites design) (in_memory d tag sites design m h);
+    stores = λ m h. find_by (λ (z : MemoryVariable). z.name) (λ z. (z.width, z.depth)) src.memories (memory_of d m)
+        (stores_once d tag sites design) (in_memory d tag sites design m h);
     marks = λ m h t. find_by (λ (z : MemoryVariable). z.name) (λ z. (z.width, z.depth)) src.memories _ (stores_once d tag sites design) (in_tags d tag sites design m h t);
     wide = fit.wide;
     small = design.small;

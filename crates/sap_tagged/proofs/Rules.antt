@@ -50,7 +50,8 @@ module _ (d : Named) (tag sites : ℕ) (design : Design d tag sites) (fit : Fitt
   abbrev set : Setting
   set = setting_of d tag
 
-  each : {A : Type 0} (P : A → Type 0) (picks : ℕ → Bool) (of : ℕ → List A) → ((x : ℕ) → picks x ≡ true → AllByRecursion P (of x)) → AllByRecursion P (for_entities picks of 0 w.entities)
+  each : {A : Type 0} (P : A → Type 0) (picks : ℕ → Bool) (of : ℕ → List A) → ((x : ℕ) → picks x ≡ true → AllByRecursion P (of x))
+      → AllByRecursion P (for_entities picks of 0 w.entities)
   each P picks of f = entities_all P picks of f 0 w.entities
 
   pub all_names : (P : Name → Type 0) → ((a : Key) → P (key_name d a)) → AllByRecursion P (declared src)

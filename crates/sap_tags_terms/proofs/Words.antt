@@ -19,7 +19,8 @@ pub word_past : (ls : Levels) (p : Program) (x : ℕ) → length p.entities.item
 word_past ls p x l =
     ap (λ (b : Bool). if b then name (named_over ls p) x else numeral x) (ap (nat_lt x) (length_map entity_of p.entities.items) ∙ le-ltb x (length p.entities.items) l)
 
-pub seat_word_is : (ls : Levels) (p : Program) (x : ℕ) → (x == length p.entities.items) ≡ false → key_name (named_over ls p) (seat_key x) ≡ codes "s_" ++ entity_word (named_over ls p) x
+pub seat_word_is : (ls : Levels) (p : Program) (x : ℕ) → (x == length p.entities.items) ≡ false
+    → key_name (named_over ls p) (seat_key x) ≡ codes "s_" ++ entity_word (named_over ls p) x
 seat_word_is ls p x e = rw (length_map entity_of p.entities.items, e) refl
 
 pub root_word_is : (ls : Levels) (p : Program) (x : ℕ) → (x == length p.entities.items) ≡ true → key_name (named_over ls p) (seat_key x) ≡ codes "s_" ++ codes "0"

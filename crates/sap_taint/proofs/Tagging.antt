@@ -83,7 +83,8 @@ form =
           let y : Scope = (codes "v_y", 8) ∷ [] in
           let x : Scope = (codes "v_x", 8) ∷ y in
           let a : Scope = (codes "v_a", 8) ∷ x in
-          one_of P (codes "n1", 8) a (refl, refl) (one_of P (codes "v_a", 8) x (refl, refl) (one_of P (codes "v_x", 8) y (refl, refl) (one_of P (codes "v_y", 8) [] (refl, refl) (none_of P))));
+          one_of P (codes "n1", 8) a (refl, refl) (one_of P (codes "v_a", 8) x (refl, refl)
+          (one_of P (codes "v_x", 8) y (refl, refl) (one_of P (codes "v_y", 8) [] (refl, refl) (none_of P))));
       shapes = λ x s h. absurd (cc);
     }
 

@@ -1,5 +1,5 @@
 -- The wires of what memories' tags take read what is there, and have that.
-use Rattle.sap_lemmas.proofs.Common.{◌≡◌, ◌<◌, ◌≤◌, ℕ, ◌+◌, zero, suc, List, [], ◌∷◌, Some, None, ap, ap₂, sym, ◌∙◌, refl, arith, bit_or, ◌==◌, if◌then◌else◌, or_zero_r, or_zero_l, AllByRecursion, pow_pos}
+use Rattle.sap_lemmas.proofs.Common.{◌≡◌, ◌<◌, ◌≤◌, ℕ, ◌+◌, suc, List, [], ◌∷◌, Some, None, ap, ap₂, sym, ◌∙◌, refl, arith, bit_or, ◌==◌, if◌then◌else◌, or_zero_r, or_zero_l, AllByRecursion, pow_pos}
 use Rattle.sap_maps.specs.Prelude.{Name, Valuation, Scope, find}
 use Rattle.sap_maps.proofs.Scopes.{found_here, found_behind}
 use Rattle.sap_net.specs.Prelude.{Shapes, IsWidth, IsOperand, IsRight, AreWires, IsMemory, names_of, operand_value, right_value, Holds}

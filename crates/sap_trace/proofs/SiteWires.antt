@@ -1,5 +1,5 @@
 -- The wires of check sites and their places.
-use Rattle.sap_lemmas.proofs.Common.{◌≡◌, ◌≢◌, ℕ, zero, suc, ◌+◌, ◌-◌, ◌<◌, ◌≤◌, List, [], ◌∷◌, ◌++◌, Option, Some, None, length, map, bytes_eq, get_or, length-append, refl, sym, ◌∙◌, subst, arith, inl, inr, AllByRecursion, cases_Bool, cases_lt, equal_of_bytes_eq}
+use Rattle.sap_lemmas.proofs.Common.{◌≡◌, ◌≢◌, ℕ, zero, suc, ◌+◌, ◌-◌, ◌<◌, List, [], ◌∷◌, ◌++◌, Option, Some, None, length, map, bytes_eq, get_or, length-append, refl, sym, ◌∙◌, subst, arith, inl, inr, AllByRecursion, cases_Bool, cases_lt, equal_of_bytes_eq}
 use Rattle.sap_tree.specs.Syntax.{DesignTree}
 use Rattle.sap_lattice.specs.Levels.{Levels}
 use Rattle.sap_check.specs.Sites.{sites_of}
@@ -75,19 +75,6 @@ pub placed_push : (n : Net) (names : ℕ → Name) (count : ℕ) (ks new : List 
     → new ≡ ks ++ k ∷ [] → ArePlaced n names (count + 1) new
 placed_push n names count ks new k h named within e =
     subst (λ (js : List ℕ). ArePlaced n names (count + 1) js) (sym e) (placed_more n names count ks h k named within)
-
--- the place of the wire of a site
-module _ (n : Net) (names : ℕ → Name) (count : ℕ) (ks : List ℕ) (h : ArePlaced n names count ks) (site : ℕ) (from_one : 1 ≤ site) (to : site ≤ count) where
-  pub site_listed : site - 1 < length ks
-  site_listed = let b : length ks ≡ count = h.count_is in omega arith
-
-  pub site_within : get_or ks (site - 1) 0 < length (value_names n)
-  site_within = h.within (site - 1) (omega arith)
-
-  pub site_named : IsPlaceOf n (names site) (get_or ks (site - 1) 0)
-  site_named =
-      let e : site - 1 + 1 ≡ site = omega arith in
-      subst (λ (k : ℕ). IsPlaceOf n (names k) (get_or ks (site - 1) 0)) e (h.named (site - 1) (omega arith))
 
 pub placed_all : (n : Net) (names : ℕ → Name) (k count : ℕ) (ks : List ℕ) → k ≡ count → ArePlaced n names k ks → ArePlaced n names count ks
 placed_all n names k count ks e h = subst (λ (j : ℕ). ArePlaced n names j ks) e h

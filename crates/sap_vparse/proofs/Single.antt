@@ -2,12 +2,10 @@
 use Rattle.sap_lemmas.proofs.Common.{◌≡◌, ◌≢◌, ◌<◌, ℕ, List, [], ◌∷◌, length, Option, Some, None, Ok, Err, Bool, true, false, refl, sym, ap, ◌∙◌, arith, eqb, ◌==◌, ◌&&◌, if◌then◌else◌, test_of_same, eqb-true}
 use Rattle.sap_vtext.specs.Tokens as t
 use Rattle.sap_vtext.specs.Tokens.{IsToken}
-use Rattle.sap_vparse.specs.Reading.{Passes, Head, ahead_of, constant_in, front_constant, front_name, front_number, head, head_of, name_in, number_in, of_name, of_sign, of_word, plain, reads, steps}
+use Rattle.sap_vparse.specs.Reading.{Passes, Head, constant_in, front_constant, front_name, front_number, head, head_of, name_in, number_in, of_sign, of_word, plain, reads, steps}
 use Rattle.sap_vlex.specs.Spelling.{sign_of, word_of}
 use Rattle.sap_vparse.specs.Table as s
 use Rattle.sap_vparse.specs.Table.{Symbol, first, grammar, if_same, may_be_empty, next, sign_number, word_number}
-use Rattle.sap_vparse.specs.declared.cursor.Ahead.TheVariants as a
-use Rattle.sap_vparse.specs.declared.cursor.Ahead.{Ahead}
 use Rattle.sap_vlex.specs.declared.token.Sign.TheVariants as j
 use Rattle.sap_vlex.specs.declared.token.Sign.{Sign}
 use Rattle.sap_vlex.specs.declared.token.Word.TheVariants as w
@@ -286,7 +284,3 @@ declared_word_back : (x : Word) → declared_word (word_number (word_of x)) ≡ 
 unfolding declared_word
 declared_word_back w.Module = refl
 declared_word_back _ = refl
-
-pub ahead_name : (x : Ahead) → ahead_of x ≡ of_name → x ≡ a.Name
-ahead_name a.Name e = refl
-ahead_name _ e = absurd (cc)

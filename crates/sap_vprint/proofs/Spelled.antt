@@ -134,7 +134,8 @@ digits_taken ds rest h stop =
     let e : whole ≡ ds ++ rest = ap (λ x. x ++ rest) (sym h.parts) in
     let run : digits_of_front whole ≡ ds = ap digits_of_front e ∙ run_taken is_ascii_digit ds rest h.all stop in
     ap front (sym e)
-    ∙ fourth_case (is_blank h.first) (starts_with nat_eq whole (codes "//")) (is_initial h.first) (is_ascii_digit h.first) _ _ _ _ _ w.white (no_comment h.first (h.others ++ rest) w.slash) w.name start
+    ∙ fourth_case (is_blank h.first) (starts_with nat_eq whole (codes "//")) (is_initial h.first) (is_ascii_digit h.first) _ _ _ _ _ w.white
+    (no_comment h.first (h.others ++ rest) w.slash) w.name start
     ∙ ap (λ x. digits_front x (drop (length x) whole)) run
     ∙ ap (digits_front ds) (ap (drop (length ds)) e ∙ drop_front ds rest)
 

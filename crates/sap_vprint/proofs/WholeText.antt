@@ -71,7 +71,8 @@ whole_text n =
     (flat_map (λ x. items_text (declared_items x (find (entities n) x))) (drop (length n.ports) n.names)) (items_text (integer_of n.memories))
     (flat_map (λ w. item_text (assign_of w)) n.wires) (flat_map (λ r. item_text (initial_of r)) n.registers) (flat_map (λ m. item_text (initial_cells_of m)) n.memories)
     (flat_map (λ r. item_text (always_of r)) n.registers) (flat_map (λ m. item_text (always_cell_of m)) n.memories) (codes "endmodule\n")
-    ∙ ap (λ z. text_of (head_pieces n.module_name) ++ (flat_map (λ p. port_text (printed_port n p)) n.ports ++ (codes "\n);\n" ++ (z ++ codes "endmodule\n")))) (sym (all_items_text n))
+    ∙ ap (λ z. text_of (head_pieces n.module_name)
+    ++ (flat_map (λ p. port_text (printed_port n p)) n.ports ++ (codes "\n);\n" ++ (z ++ codes "endmodule\n")))) (sym (all_items_text n))
     ∙ sym (file_text n)
 
 pub print_is : (n : Net) (a b text : List ℕ) → IsNetlist n → a ≡ front_text n → b ≡ a ++ inner_text n → text ≡ b ++ body_text n → IsModule text n
@@ -79,7 +80,8 @@ print_is n a b text h e f g =
     let whole : text ≡ text_of (file_pieces (file_of n)) = g ∙ ap (λ z. z ++ body_text n) (f ∙ ap (λ z. z ++ inner_text n) e) ∙ whole_text n in
     subst (λ z. IsModule z n) (sym whole) (printed_module n h)
 
-pub front_grows : (n : Net) (o a b : List ℕ) → a ≡ o ++ text_of (head_pieces n.module_name) → b ≡ a ++ flat_map (λ p. port_text (printed_port n p)) n.ports → b ++ codes "\n);\n" ≡ o ++ front_text n
+pub front_grows : (n : Net) (o a b : List ℕ) → a ≡ o ++ text_of (head_pieces n.module_name)
+    → b ≡ a ++ flat_map (λ p. port_text (printed_port n p)) n.ports → b ++ codes "\n);\n" ≡ o ++ front_text n
 unfolding front_text
 front_grows n o a b e f =
     ap (λ z. z ++ codes "\n);\n") (f ∙ ap (λ z. z ++ flat_map (λ p. port_text (printed_port n p)) n.ports) e)

@@ -130,7 +130,8 @@ module _ (lattice system out : List ℕ) (answer : ℕ) (t n : Told) where
   past_system ls s e has is cause = past_file t system system_file (behind_system ls) e system_lawful s is (past_lattice ls e has cause)
 
   -- where the files are such, what causes an ending behind them does
-  caused : (ls : Levels) (s : Listing) (designs : List NamedDesign) (e : Ending) → AreForLink lattice system t ls s designs → Cause (asks_wired ls s.wires out designs) t e → IsCaused e
+  caused : (ls : Levels) (s : Listing) (designs : List NamedDesign) (e : Ending) → AreForLink lattice system t ls s designs
+      → Cause (asks_wired ls s.wires out designs) t e → IsCaused e
   caused ls s designs e are cause = inr (ls, are.levels, inr (s, are.lists, caused_behind t ls s.parts designs (asks_wired ls s.wires out) e are.parts cause))
 
   -- where it is done the wires break no rule
@@ -197,7 +198,8 @@ links words lost now answer t n a exact = λ lattice system out is.
           let ended : a.ending ≡ done = done_alone a.ending (sym zero ∙ a.status) in
           let left : Leaves (asks_for words) t n.files done = subst (λ (e : Ending). Leaves (asks_for words) t n.files e) ended a.leaves in
           let cause : Cause (asks (link lattice system out)) t done =
-          subst (λ (e : Ending). Cause (asks (link lattice system out)) t e) ended (caused_by (λ six. apart answer 6 zero six (λ e. omega (arith, e))) (λ seven. apart answer 7 zero seven (λ e. omega (arith, e)))) in
+          subst (λ (e : Ending). Cause (asks (link lattice system out)) t e) ended
+          (caused_by (λ six. apart answer 6 zero six (λ e. omega (arith, e))) (λ seven. apart answer 7 zero seven (λ e. omega (arith, e)))) in
           written lattice system out answer t n cause (subst (λ (c : Option Words). Written (asks_if c) t n.files) is left);
       always = always lattice system out answer t n
           (subst (λ (c : Option Words). (e : Ending) → Cause (asks_if c) t e → (answer ≡ status_of e) ⊎ ((answer ≡ 6) ⊎ (answer ≡ 7))) is exact.always);

@@ -81,7 +81,8 @@ module _ (lattice verilog out : List ℕ) (answer : ℕ) (t n : Told) where
       let r = refused_at t verilog module_file (behind_module ls) e text there none behind in
       is ∙ ap status_of r.1 ∙ ap (λ (w : Refusal). status_of (refused w)) r.2.1
 
-  clash_caused : (ls : Levels) (net : Net) (x : List ℕ) → Has t lattice lattice_file ls → Has t verilog module_file net → IsClash net x → IsCaused (refused (taint_refused (Clash x)))
+  clash_caused : (ls : Levels) (net : Net) (x : List ℕ) → Has t lattice lattice_file ls → Has t verilog module_file net → IsClash net x
+      → IsCaused (refused (taint_refused (Clash x)))
   clash_caused ls net x has had clash = inr (ls, has, inr (net, had, (Some x, clash, refl)))
 
 taints : (words : List (List ℕ)) (lost now answer : ℕ) (t n : Told) → Answers words lost now answer t n → Exact words t answer → Taints words lost now answer t n
@@ -93,7 +94,8 @@ taints words lost now answer t n a exact = λ lattice verilog out is.
           let ended : a.ending ≡ done = done_alone a.ending (sym zero ∙ a.status) in
           let left : Leaves (asks_for words) t n.files done = subst (λ (e : Ending). Leaves (asks_for words) t n.files e) ended a.leaves in
           let cause : Cause (asks (taint lattice verilog out)) t done =
-          subst (λ (e : Ending). Cause (asks (taint lattice verilog out)) t e) ended (caused (λ six. not_both answer 6 zero six (λ e. omega (arith, e))) (λ seven. not_both answer 7 zero seven (λ e. omega (arith, e)))) in
+          subst (λ (e : Ending). Cause (asks (taint lattice verilog out)) t e) ended
+          (caused (λ six. not_both answer 6 zero six (λ e. omega (arith, e))) (λ seven. not_both answer 7 zero seven (λ e. omega (arith, e)))) in
           written lattice verilog out answer t n cause (subst (λ (c : Option Words). Written (asks_if c) t n.files) is left);
       always = always lattice verilog out answer t n
           (subst (λ (c : Option Words). (e : Ending) → Cause (asks_if c) t e → (answer ≡ status_of e) ⊎ ((answer ≡ 6) ⊎ (answer ≡ 7))) is exact.always);

@@ -64,8 +64,10 @@ pub behind_more : (behind now after : List (List Given) → Type 0) (x line : Li
 behind_more behind now after x line i same so step cycles h =
     subst after (cycle_more cycles x i) (subst (λ (l : List Given). after ((cycles ++ replicate i x) ++ l ∷ [])) same (step (cycles ++ replicate i x) (so cycles h)))
 
-module _ (behind now : List (List Given) → Type 0) (shows later last : Shows) (count cycle i : ℕ) (x line : List Given) (waited waits text : List ℕ) (before mid after : Option Told)
-    (same : line ≡ x) (stands : (cycles : List (List Given)) → behind cycles → now (cycles ++ replicate i x)) (is : cycle ≡ count + i) (step : Adds now later last cycle (line ∷ []) text)
+module _ (behind now : List (List Given) → Type 0) (shows later last : Shows) (count cycle i : ℕ) (x line : List Given)
+    (waited waits text : List ℕ) (before mid after : Option Told)
+    (same : line ≡ x) (stands : (cycles : List (List Given)) → behind cycles → now (cycles ++ replicate i x)) (is : cycle ≡ count + i)
+    (step : Adds now later last cycle (line ∷ []) text)
     (so : CyclesShown behind shows later count (replicate i x) waited waits before mid) where
   adds_more : Adds behind shows last count (replicate (i + 1) x) (so.text ++ text)
   adds_more cycles shown h many is_shown =

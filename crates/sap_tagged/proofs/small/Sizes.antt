@@ -121,7 +121,8 @@ mutual
       let r = arms_within ls h k arms in
       omega (arith, q, r)
 
-  arms_within : (ls : Levels) (h : Surroundings) (k : ℕ) (arms : tree.Arms) → constant_count (arms_of ls h k arms) + arms_size (arms_of ls h k arms) ≤ constant_nodes arms + arms_nodes arms
+  arms_within : (ls : Levels) (h : Surroundings) (k : ℕ) (arms : tree.Arms)
+      → constant_count (arms_of ls h k arms) + arms_size (arms_of ls h k arms) ≤ constant_nodes arms + arms_nodes arms
   arms_within ls h k (tree.last_arm b) = let r = block_within ls h k b in omega (arith, r)
   arms_within ls h k (tree.and_arm constants b arms) =
       let q = constants_within constants in

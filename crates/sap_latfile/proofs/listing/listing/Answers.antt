@@ -14,6 +14,8 @@ returns-in-Some-Some-2 c =
     let arrays = c.in-Some-Some in
     record {
       two_keys = key_count-entries c.args.document.now.entries ∙ sym c.len.ensures.len ∙ c.if-len-ne2.false;
-      levels = listed texts_of (codes "levels") document arrays.levels.now.items c.as_slice.result.now c.in_ok-names.names c.in-Some-Some-2.names arrays.ensures c.as_slice.ensures.value c.in_ok-names.ensures c.in-Some-Some-2.is-0;
-      below = listed pairs_of (codes "below") document arrays.below.now.items c.as_slice-2.result.now c.in_ok-pairs.pairs c.in-Some-Some-2.pairs arrays.ensures' c.as_slice-2.ensures.value c.in_ok-pairs.ensures c.in-Some-Some-2.is-1;
+      levels = listed texts_of (codes "levels") document arrays.levels.now.items c.as_slice.result.now c.in_ok-names.names
+          c.in-Some-Some-2.names arrays.ensures c.as_slice.ensures.value c.in_ok-names.ensures c.in-Some-Some-2.is-0;
+      below = listed pairs_of (codes "below") document arrays.below.now.items c.as_slice-2.result.now c.in_ok-pairs.pairs
+          c.in-Some-Some-2.pairs arrays.ensures' c.as_slice-2.ensures.value c.in_ok-pairs.ensures c.in-Some-Some-2.is-1;
     }

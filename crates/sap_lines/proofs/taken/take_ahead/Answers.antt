@@ -12,7 +12,8 @@ whole_back new items k same whole =
     subst (λ (n : ℕ). take n (new ++ drop (length new) items) ≡ new) (same ∙ sym whole) (take-append_seam new (drop (length new) items))
 
 -- what a line gives that has nothing wrong with it
-read_given : (read : Result ℕ StimCode) (cycles : ℕ) (new : List Given) (line : Result Span StimCode) → read ≡ Ok cycles → with_inputs read new ≡ line → with_inputs (Ok cycles) new ≡ line
+read_given : (read : Result ℕ StimCode) (cycles : ℕ) (new : List Given) (line : Result Span StimCode) → read ≡ Ok cycles
+    → with_inputs read new ≡ line → with_inputs (Ok cycles) new ≡ line
 read_given read cycles new line is given = ap (λ (r : Result ℕ StimCode). with_inputs r new) (sym is) ∙ given
 
 pub returns-clause-tells : goal.returns-clause-tells

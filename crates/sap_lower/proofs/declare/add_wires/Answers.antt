@@ -12,5 +12,6 @@ returns c =
     let same : AreSame set c.args.ports.now = search rules in
     let kept : c.reserve.new.self.items ≡ c.args.made.now.items = search rules in
     on_ok_weaker c.add_other_than.result
-    (λ e. e ∙ ap (λ (ns : List Name). ns ++ unported set (names_of c.args.wires.now)) kept ∙ ap (λ (ns : List Name). c.args.made.now.items ++ ns) (unported_same set c.args.ports.now (names_of c.args.wires.now) same))
+    (λ e. e ∙ ap (λ (ns : List Name). ns ++ unported set (names_of c.args.wires.now)) kept
+    ∙ ap (λ (ns : List Name). c.args.made.now.items ++ ns) (unported_same set c.args.ports.now (names_of c.args.wires.now) same))
     c.add_other_than.ensures

@@ -18,7 +18,8 @@ else_block-returns-in-None t c =
 
 pub command-returns-in_ok-else_block-in-If : goal.command-returns-in_ok-else_block-in-If
 command-returns-in_ok-else_block-in-If t c =
-    joined_on_last c.extend_from_slice-in-If.result _ c.else_block.new.out.items (codes "\n") (c.args.out.now.items ++ command_text c.args.margin.now (command_of c.args.command.now))
+    joined_on_last c.extend_from_slice-in-If.result _ c.else_block.new.out.items (codes "\n")
+    (c.args.out.now.items ++ command_text c.args.margin.now (command_of c.args.command.now))
     c.extend_from_slice-in-If.ensures.items
     (if_grows c.args.margin.now _ _ _ _ _ c.args.out.now.items _ _ _ _ (ap command_of c.in-If.is ∙ command_of-if _ _ _ _) c.in_ok-extend_from_slice.ensures.items
     c.in_ok-between-in-If.ensures c.in_ok-block-in-If.ensures c.in_ok-else_block-in-If.ensures)
@@ -35,7 +36,8 @@ arms-returns t c = arms_end c.args.margin.now c.args.list.now c.loop-arm.arm-ind
 
 pub command-returns-in_ok-block-in-TryThen-2 : goal.command-returns-in_ok-block-in-TryThen-2
 command-returns-in_ok-block-in-TryThen-2 t c =
-    joined_on_last c.extend_from_slice-in-TryThen-2.result _ c.block-in-TryThen-2.new.out.items (codes "\n") (c.args.out.now.items ++ command_text c.args.margin.now (command_of c.args.command.now))
+    joined_on_last c.extend_from_slice-in-TryThen-2.result _ c.block-in-TryThen-2.new.out.items (codes "\n")
+    (c.args.out.now.items ++ command_text c.args.margin.now (command_of c.args.command.now))
     c.extend_from_slice-in-TryThen-2.ensures.items
     (decided_grows c.args.margin.now _ _ _ _ _ c.args.out.now.items _ _ _ _ _ (ap command_of c.in-TryThen.is ∙ command_of-try_then _ _ _ _) c.in_ok-extend_from_slice.ensures.items
     c.in_ok-simple_before-in-TryThen.ensures c.in_ok-block-in-TryThen.ensures c.in_ok-extend_from_slice-in-TryThen.ensures.items
@@ -43,7 +45,8 @@ command-returns-in_ok-block-in-TryThen-2 t c =
 
 pub command-returns-in_ok-extend_from_slice-in-Case : goal.command-returns-in_ok-extend_from_slice-in-Case
 command-returns-in_ok-extend_from_slice-in-Case t c =
-    joined_on_last c.extend_from_slice-in-Case-2.result _ c.extend_from_slice-in-Case.new.self.items (codes "}\n") (c.args.out.now.items ++ command_text c.args.margin.now (command_of c.args.command.now))
+    joined_on_last c.extend_from_slice-in-Case-2.result _ c.extend_from_slice-in-Case.new.self.items (codes "}\n")
+    (c.args.out.now.items ++ command_text c.args.margin.now (command_of c.args.command.now))
     c.extend_from_slice-in-Case-2.ensures.items
     (case_grows c.args.margin.now _ _ _ _ _ _ _ _ c.args.out.now.items _ _ _ _ _ (ap command_of c.in-Case.is
     ∙ command_of-case _ _ _ _) (c.as_slice.ensures.value ∙ c.in_ok-inner-in-Case.ensures)

@@ -5,13 +5,15 @@ use Rattle.sap_stim.proofs.ahead.few_digits.Goals as goal
 pub overflow_mul-number : goal.overflow_mul-number
 overflow_mul-number c =
     let i = c.loop-count.invariant in
-    let small = few_small c.args.text.now c.loop-count.count c.loop-count.number (omega (arith, c.loop-count-test.true, i.all)) (omega (arith, c.loop-count-test.true, i.few)) i.digits i.number in
+    let small = few_small c.args.text.now c.loop-count.count c.loop-count.number (omega (arith, c.loop-count-test.true, i.all))
+    (omega (arith, c.loop-count-test.true, i.few)) i.digits i.number in
     omega (arith, small)
 
 pub overflow_add-number : goal.overflow_add-number
 overflow_add-number c =
     let i = c.loop-count.invariant in
-    let small = few_small c.args.text.now c.loop-count.count c.loop-count.number (omega (arith, c.loop-count-test.true, i.all)) (omega (arith, c.loop-count-test.true, i.few)) i.digits i.number in
+    let small = few_small c.args.text.now c.loop-count.count c.loop-count.number (omega (arith, c.loop-count-test.true, i.all))
+    (omega (arith, c.loop-count-test.true, i.few)) i.digits i.number in
     omega (arith, small, c.from.ensures, c.type_inv.text c.loop-count.count)
 
 pub loop-count-preserved : goal.loop-count-preserved

@@ -37,7 +37,8 @@ loop-k-preserved c =
       read = λ e.
           let so_far = c.loop-k.invariant.read e in (
             read_more c.args.lattice.now c.args.fields.now c.loop-k.k _ _ _ (line (drop at s)) first _ c.in_ok-input.input
-                c.loop-k-test.true so_far.1 (field_given c.args.lattice.now c.args.fields.now c.loop-k.k _ c.in_ok-input.input _ (drop at s) rest c.in_ok-input.ensures.given) refl next.1
+                c.loop-k-test.true so_far.1 (field_given c.args.lattice.now c.args.fields.now c.loop-k.k _ c.in_ok-input.input _ (drop at s)
+                rest c.in_ok-input.ensures.given) refl next.1
                 (take_more_set c.loop-k.inputs c.loop-k.k c.in_ok-input.input (omega (arith, c.loop-k.auto.inputs, c.requires.places, c.loop-k-test.true)))
                 ∙ so_far.0,
             enough_more c.args.fields.now c.loop-k.k (line (drop at s)) _ c.loop-k-test.true so_far.1 next.1,

@@ -9,5 +9,6 @@ unwrap-requires c =
     let fits = row_fits c.args.cycle ss c.ranges.cycle.fits in
     let size : length c.take-bytes.result.items ≡ length c.args.out.now.bytes = ap length c.take-bytes.ensures.bytes in
     ok_with_room c.push_row_by.result (vec_capacity c.take-bytes.result) (length c.take-bytes.result.items + length (row_text c.args.cycle ss))
-    (subst (λ cycle. OnErr c.push_row_by.result (vec_capacity c.take-bytes.result < length c.take-bytes.result.items + length (row_text cycle ss))) c.turn_to.ensures c.push_row_by.ensures.full)
+    (subst (λ cycle. OnErr c.push_row_by.result (vec_capacity c.take-bytes.result < length c.take-bytes.result.items
+    + length (row_text cycle ss))) c.turn_to.ensures c.push_row_by.ensures.full)
     (omega (arith, fits, size, c.requires.fits, c.take-bytes.ensures.room))

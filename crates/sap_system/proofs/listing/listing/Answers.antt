@@ -13,6 +13,8 @@ returns-in-Some-Some-2 c =
     let arrays = c.in-Some-Some in
     record {
       two_keys = key_count-entries c.args.document.now.entries ∙ sym c.len.ensures.len ∙ c.if-len-ne2.false;
-      parts = listed parts_of (codes "parts") document arrays.pairs.now.items c.as_slice.result.now c.in_ok-parts.parts c.in-Some-Some-2.parts arrays.ensures c.as_slice.ensures.value c.in_ok-parts.ensures c.in-Some-Some-2.is-0;
-      wires = listed wires_of (codes "wires") document arrays.lines.now.items c.as_slice-2.result.now c.in_ok-wires.wires c.in-Some-Some-2.wires arrays.ensures' c.as_slice-2.ensures.value c.in_ok-wires.ensures c.in-Some-Some-2.is-1;
+      parts = listed parts_of (codes "parts") document arrays.pairs.now.items c.as_slice.result.now c.in_ok-parts.parts
+          c.in-Some-Some-2.parts arrays.ensures c.as_slice.ensures.value c.in_ok-parts.ensures c.in-Some-Some-2.is-0;
+      wires = listed wires_of (codes "wires") document arrays.lines.now.items c.as_slice-2.result.now c.in_ok-wires.wires
+          c.in-Some-Some-2.wires arrays.ensures' c.as_slice-2.ensures.value c.in_ok-wires.ensures c.in-Some-Some-2.is-1;
     }

@@ -11,7 +11,8 @@ loop-constant-preserved c =
     let n = c.args.number.now in
     let p = c.args.pick.now in
     let t = c.in_ok-value.ensures ∙ ap₂ (λ (a b : Term Name). choose a (constant p.width c.args.block) b) (c.in_ok-test.ensures
-    ∙ ap (λ (a : Term Name). two Eq a (constant n.width (get_or c.args.constants.now c.loop-constant.constant-index 0))) c.wire_variable-seen.ensures) c.wire_variable-before.ensures in
+    ∙ ap (λ (a : Term Name). two Eq a (constant n.width (get_or c.args.constants.now c.loop-constant.constant-index 0)))
+    c.wire_variable-seen.ensures) c.wire_variable-before.ensures in
     constants_step (setting_in c.args.setting.now) n.width n.wire p.width p.wire c.args.block c.args.constants.now
     c.loop-constant.constant-index 0 (body_of c.loop-constant.out.items) (body_of c.set_wire.new.out.items) _ _ (omega arith)
     c.in_ok-set_wire.ensures t c.loop-constant.invariant

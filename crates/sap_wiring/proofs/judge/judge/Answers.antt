@@ -11,7 +11,8 @@ returns-in_default-target-clause-first c =
 pub returns-then-is_fed-clause-broken : goal.returns-then-is_fed-clause-broken
 returns-then-is_fed-clause-broken c =
     let g = rules.given (seen c.args.around.now) c.args.texts.now c.args.k c.requires.named c.requires.within c.index-texts-k.is in
-    rules.is_k7 _ _ _ _ g c.in-Some-target.input.endpoint c.in-Some-target.input.width c.in-Some-target.ensures (sym (c.requires.fed c.index-texts-k.result g.here) ∙ c.if-is_fed.true)
+    rules.is_k7 _ _ _ _ g c.in-Some-target.input.endpoint c.in-Some-target.input.width c.in-Some-target.ensures
+    (sym (c.requires.fed c.index-texts-k.result g.here) ∙ c.if-is_fed.true)
 
 pub returns-then-is_fed-clause-first : goal.returns-then-is_fed-clause-first
 returns-then-is_fed-clause-first c =

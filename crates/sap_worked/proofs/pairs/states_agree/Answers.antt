@@ -14,7 +14,10 @@ unfolding first put_number put_level put_child
 returns c = record {
   registers_above = agreed left _ _ (search alike) (search alike);
   enforced_registers_above = agreed left _ _ (search alike) (search alike);
-  cells_above = agreed left _ _ (record { k = cells _ (search alike) (λ i. rw (later i) (search alike)); h = cells _ (search alike) (λ i. rw (later i) (search alike)) }) (search alike);
+  cells_above = agreed left _ _ (record {
+    k = cells _ (search alike) (λ i. rw (later i) (search alike));
+    h = cells _ (search alike) (λ i. rw (later i) (search alike));
+  }) (search alike);
   memories_above = agreed left _ _ (search alike) (search alike);
   state_levels_above = agreed left _ _ (search alike) (search alike);
   children_above = agreed left _ _ (search alike) (search alike);

@@ -15,7 +15,8 @@ pub bounds-memories-k : goal.bounds-memories-k
 bounds-memories-k c = rw c.memories.ensures (is_within (found_memory c.self.inside.netlist c.self.invariant.memories_found c.as_bytes.ensures.value c.at_name.ensures c.in-Some.is))
 
 pub bounds-memories-k-in-Some : goal.bounds-memories-k-in-Some
-bounds-memories-k-in-Some c = rw c.memories.ensures (is_within (found_memory c.self.inside.netlist c.self.invariant.memories_found c.as_bytes.ensures.value c.at_name.ensures c.in-Some.is))
+bounds-memories-k-in-Some c = rw c.memories.ensures
+    (is_within (found_memory c.self.inside.netlist c.self.invariant.memories_found c.as_bytes.ensures.value c.at_name.ensures c.in-Some.is))
 
 pub index-requires : goal.index-requires
 index-requires c =
