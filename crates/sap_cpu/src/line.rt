@@ -1,9 +1,9 @@
 //! A line of assembly.
 
-ghost use Rattle.std.specs.Prelude.{◌≡◌, ◌==◌, ◌≤◌, ◌<◌, Some, position};
+ghost use Rattle.std.specs.Prelude.{◌≡◌, ◌==◌, ◌<◌, Some, position};
 ghost use Rattle.std.specs.Char.{is_ascii_digit};
 ghost use Rattle.std.specs.List.{after_first, before_first, list_all};
-ghost use Rattle.sap_machine.specs.Assembly.{is_number, numbered, with_number, word_of};
+ghost use Rattle.sap_machine.specs.Assembly.{numbered, with_number, word_of};
 
 use sap_machine::fault::AsmCode;
 use sap_text::scan::number;

@@ -1,9 +1,13 @@
 //! The design of the machine.
 
 ghost use Rattle.std.specs.Prelude.{◌≡◌, IfOk};
+ghost use Rattle.sap_lattice.specs.Diamond.{diamond};
 ghost use Rattle.sap_tree.specs.Bare.{bare};
 ghost use Rattle.sap_tree.specs.Designs.{design_of};
+ghost use Rattle.sap_shape.specs.WellFormed.{WellFormed};
+ghost use Rattle.sap_resolved.specs.Fill.{program_of};
 ghost use Rattle.sap_machine.specs.Design.{machine_design};
+ghost use Rattle.sap_machine.specs.Machine.{machine};
 
 use sap_lex::fault::ReadFault;
 use sap_machine::design_is_sound;
@@ -130,9 +134,11 @@ state Run enforced low {
 }
 ";
 
-/// The design of the machine, read from its text.
+/// The design of the machine, read from its text; `sap_machine` has the laws of its program.
 pub fn machine(alloc: Global) -> Result<Design, AllocError>
-    ensures { IfOk result (λ design. bare (design_of design) ≡ bare machine_design) }
+    ensures design { IfOk result (λ design. bare (design_of design) ≡ bare machine_design) }
+    ensures well_formed { IfOk result (λ design. WellFormed diamond (design_of design)) }
+    ensures program { IfOk result (λ design. program_of diamond (design_of design) ≡ machine) }
 {
     design_is_sound();
     one_reading();

@@ -12,11 +12,11 @@ use Rattle.sap_machine.specs.Laws.{word, Keeps, after_cycles, SameWords, KeptAli
 use Rattle.sap_machine.proofs.Run.{runs_the_table}
 
 -- words are equal as functions, since past the sixteenth there is none
-same_words : (u : User) (s t : List (List Tagged)) → SameWords machine_world.order u s t → word machine_world.order u s ≡ word machine_world.order u t
+same_words : (u : User) (s t : List (List Tagged)) → SameWords machine_world u s t → word machine_world u s ≡ word machine_world u t
 unfolding word
 same_words u s t same = fun_ext (λ i. by i (nat_lt i 16) refl)
   where
-    by : (i : ℕ) (inside : Bool) → nat_lt i 16 ≡ inside → word machine_world.order u s i ≡ word machine_world.order u t i
+    by : (i : ℕ) (inside : Bool) → nat_lt i 16 ≡ inside → word machine_world u s i ≡ word machine_world u t i
     by i true e = same i (grind (arith, common_steps))
     by i false e = rw e refl
 
@@ -29,6 +29,6 @@ alike u x y s t same k h = record {
 
 pub words_decide : WordsDecide machine
 words_decide s t fit_s fit_t u same n long_s long_t =
-    alike u (after_slices u (word machine_world.order u s) n) (after_slices u (word machine_world.order u t) n)
+    alike u (after_slices u (word machine_world u s) n) (after_slices u (word machine_world u t) n)
     (after_cycles machine (17 + 6 * n) s).store (after_cycles machine (17 + 6 * n) t).store
     (ap (λ word. after_slices u word n) (same_words u s t same)) (runs_the_table s fit_s n long_s u) (runs_the_table t fit_t n long_t u)

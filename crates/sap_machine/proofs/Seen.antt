@@ -117,7 +117,7 @@ hidden_alike l x y (inl e) = same_alike l x y e
 hidden_alike l x y (inr h) = inr h
 
 inputs_agree : (u : User) (i j : List Tagged) → InputsFit machine_world i → InputsFit machine_world j
-    → OthersWordDiffers machine_world.order u i j → InputsAgree machine_world.order (level_of u) i j
+    → OthersWordDiffers machine_world u i j → InputsAgree machine_world.order (level_of u) i j
 inputs_agree u [] j fi fj d = elim fi [ ]
 inputs_agree u (a ∷ []) j fi fj d = elim fi.2 [ ]
 inputs_agree u (a ∷ (b ∷ (x ∷ xs))) j fi fj d = elim fi.2.2 [ ]
@@ -127,7 +127,7 @@ inputs_agree u (a ∷ (b ∷ [])) (c ∷ (e ∷ (x ∷ xs))) fi fj d = elim fj.2
 inputs_agree A (a ∷ (b ∷ [])) (c ∷ (e ∷ [])) fi fj d = (same_alike 1 a c d.own, (hidden_alike 1 b e d.hidden, tt))
 inputs_agree B (a ∷ (b ∷ [])) (c ∷ (e ∷ [])) fi fj d = (hidden_alike 2 a c d.hidden, (same_alike 2 b e d.own, tt))
 
-streams_agree : (u : User) (s t : List (List Tagged)) → StreamFits machine_world s → StreamFits machine_world t → AllZip (OthersWordDiffers machine_world.order u) s t
+streams_agree : (u : User) (s t : List (List Tagged)) → StreamFits machine_world s → StreamFits machine_world t → AllZip (OthersWordDiffers machine_world u) s t
     → StreamsAgree machine_world.order (level_of u) s t
 streams_agree u [] [] fs ft d = tt
 streams_agree u [] (j ∷ t) fs ft d = absurd d

@@ -1,5 +1,5 @@
--- The design of the machine: two users share a pipeline, which the kernel zeroes and retags at each slice. The design is made, not read,
--- so all its places are one.
+-- The design of the machine: two users share a pipeline, which the kernel zeroes and retags at each slice. The tree is written out, not
+-- read, so all its places are one.
 use Rattle.std.specs.Prelude.{ℕ, List, [], ◌∷◌, Some, None, codes}
 use Rattle.sap_tree.specs.Making.{named, numeral, number, enforced, block, states}
 use Rattle.sap_tree.specs.Making as make

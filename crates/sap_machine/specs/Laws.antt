@@ -3,7 +3,7 @@ use Rattle.std.specs.Prelude.{◌≡◌, ℕ, ◌+◌, ◌*◌, ◌<◌, ◌≤�
 use Rattle.std.specs.List.{AllZip}
 use Rattle.sap_lattice.specs.Order.{Order}
 use Rattle.sap_meaning.specs.Program.{Program, World}
-use Rattle.sap_meaning.specs.Cycle.{Tagged}
+use Rattle.sap_meaning.specs.Cycle.{Tagged, given}
 use Rattle.sap_meaning.specs.Store.{Store, own, start, number, Refusal, After, stay}
 use Rattle.sap_meaning.specs.State.{first, labelled_run, StreamFits}
 use Rattle.sap_meaning.specs.Agree.{High, SlotsAlike, StreamsAgree}
@@ -13,19 +13,15 @@ use Rattle.sap_machine.specs.Machine.{entity, part}
 use Rattle.sap_machine.specs.Table.{UserState, begun}
 use Rattle.sap_machine.specs.Slices.{after_slices, holder, other, sliced}
 
--- what an input gets by these; past the end, 0 at level 0
-abbrev pub input_in : List Tagged → (input : ℕ) → Tagged
-input_in inputs x = get_or inputs x (record { number = 0; level = 0 })
-
--- what it gets in the cycle behind i cycles
-abbrev pub given : List (List Tagged) → (input i : ℕ) → Tagged
-given stream x i = input_in (get_or stream i []) x
+-- what an input gets in the cycle behind i cycles
+abbrev pub given_behind : World → List (List Tagged) → (input i : ℕ) → Tagged
+given_behind w stream x i = given w (get_or stream i []) x
 
 -- The word i of a user is that of cycle i + 1, for i below 16, if its level is at or below the user's; else 0.
-unfoldable pub word : Order → User → List (List Tagged) → (i : ℕ) → ℕ
-word o u stream i =
-    let t = given stream (part u).input i in
-    if nat_lt i 16 && o.le t.level (part u).level then t.number else 0
+unfoldable pub word : World → User → List (List Tagged) → (i : ℕ) → ℕ
+word w u stream i =
+    let t = given_behind w stream (part u).input i in
+    if nat_lt i 16 && w.order.le t.level (part u).level then t.number else 0
 
 -- the first state, and what each cycle of a run leads to
 abbrev pub states : Program → List (List Tagged) → List After
@@ -44,25 +40,25 @@ pub record Keeps (u : User) (state : UserState) (s : Store) : Type 0 where
 -- After cycle 17 + 6n both users are kept as the table has them after n slices.
 abbrev pub RunsTheTable : Program → Type 0
 RunsTheTable p = (stream : List (List Tagged)) → StreamFits p.world stream → (n : ℕ) → 17 + 6 * n ≤ length stream
-    → (u : User) → Keeps u (after_slices u (word p.world.order u stream) n) (after_cycles p (17 + 6 * n) stream).store
+    → (u : User) → Keeps u (after_slices u (word p.world u stream) n) (after_cycles p (17 + 6 * n) stream).store
 
--- a word above its user is refused, at the user's level
+-- a word that isn't at or below its user's level is refused, at that level
 abbrev pub refused_word : Order → User → Tagged → List Refusal
 refused_word o u t = if o.le t.level (part u).level then [] else record { site = (part u).site; level = (part u).level } ∷ []
 
--- what is refused behind c cycles: in the first sixteen cycles the words above their users, and nothing else ever
-abbrev pub refused_words : Order → List (List Tagged) → (c : ℕ) → List Refusal
-refused_words o stream c =
-    if nat_lt c 16 then refused_word o A (given stream (part A).input c) ++ refused_word o B (given stream (part B).input c) else []
+-- what is refused behind c cycles: in the first sixteen cycles these words of both users, and nothing else ever
+abbrev pub refused_words : World → List (List Tagged) → (c : ℕ) → List Refusal
+refused_words w stream c =
+    if nat_lt c 16 then refused_word w.order A (given_behind w stream (part A).input c) ++ refused_word w.order B (given_behind w stream (part B).input c) else []
 
 -- Each cycle refuses exactly these words.
 abbrev pub RefusesTheWords : Program → Type 0
 RefusesTheWords p = (stream : List (List Tagged)) → StreamFits p.world stream → (c : ℕ) → c < length stream
-    → (after_cycles p (c + 1) stream).refused ≡ refused_words p.world.order stream c
+    → (after_cycles p (c + 1) stream).refused ≡ refused_words p.world stream c
 
 -- Two streams have the same words for a user, at whatever levels these come.
-abbrev pub SameWords : Order → User → (s t : List (List Tagged)) → Type 0
-SameWords o u s t = (i : ℕ) → i < 16 → word o u s i ≡ word o u t i
+abbrev pub SameWords : World → User → (s t : List (List Tagged)) → Type 0
+SameWords w u s t = (i : ℕ) → i < 16 → word w u s i ≡ word w u t i
 
 -- the same is kept of a user
 pub record KeptAlike (u : User) (s t : Store) : Type 0 where
@@ -72,7 +68,7 @@ pub record KeptAlike (u : User) (s t : Store) : Type 0 where
 
 -- A user's words alone decide what is kept of it after each slice.
 abbrev pub WordsDecide : Program → Type 0
-WordsDecide p = (s t : List (List Tagged)) → StreamFits p.world s → StreamFits p.world t → (u : User) → SameWords p.world.order u s t
+WordsDecide p = (s t : List (List Tagged)) → StreamFits p.world s → StreamFits p.world t → (u : User) → SameWords p.world u s t
     → (n : ℕ) → 17 + 6 * n ≤ length s → 17 + 6 * n ≤ length t
     → KeptAlike u (after_cycles p (17 + 6 * n) s).store (after_cycles p (17 + 6 * n) t).store
 
@@ -90,14 +86,14 @@ OthersDontCount p = (s t : List (List Tagged)) → StreamFits p.world s → Stre
     → (c : ℕ) → c ≤ length s → SamePart p.world u (after_cycles p c s).store (after_cycles p c t).store
 
 -- a user gets the same at the same level; and so does the other, or neither of its words is at or below this user's level
-pub record OthersWordDiffers (o : Order) (u : User) (inputs others : List Tagged) : Type 0 where
-  pub own : input_in inputs (part u).input ≡ input_in others (part u).input
-  pub hidden : (input_in inputs (part (other u)).input ≡ input_in others (part (other u)).input)
-      ⊎ (High o (part u).level (input_in inputs (part (other u)).input).level × High o (part u).level (input_in others (part (other u)).input).level)
+pub record OthersWordDiffers (w : World) (u : User) (inputs others : List Tagged) : Type 0 where
+  pub own : given w inputs (part u).input ≡ given w others (part u).input
+  pub hidden : (given w inputs (part (other u)).input ≡ given w others (part (other u)).input)
+      ⊎ (High w.order (part u).level (given w inputs (part (other u)).input).level × High w.order (part u).level (given w others (part (other u)).input).level)
 
 -- So a user's part is the same behind every cycle of streams that differ in words of the other alone.
 abbrev pub OthersWordsDontCount : Program → Type 0
-OthersWordsDontCount p = (s t : List (List Tagged)) → StreamFits p.world s → StreamFits p.world t → (u : User) → AllZip (OthersWordDiffers p.world.order u) s t
+OthersWordsDontCount p = (s t : List (List Tagged)) → StreamFits p.world s → StreamFits p.world t → (u : User) → AllZip (OthersWordDiffers p.world u) s t
     → (c : ℕ) → c ≤ length s → SamePart p.world u (after_cycles p c s).store (after_cycles p c t).store
 
 -- the users' states slice by slice: they begin with their words, and a slice is three instructions of its holder

@@ -1,8 +1,11 @@
 -- The machine: the program of the design over the lattice of four levels, and what of it belongs to each user.
-use Rattle.std.specs.Prelude.{ℕ, List, codes, unwrap_or}
+use Rattle.std.specs.Prelude.{◌≡◌, ℕ, List, codes, unwrap_or}
 use Rattle.sap_lattice.specs.Diamond.{diamond, level_names}
 use Rattle.sap_lattice.specs.Levels.{level_named}
+use Rattle.sap_tree.specs.Syntax.{DesignTree}
+use Rattle.sap_tree.specs.Bare.{bare}
 use Rattle.sap_names.specs.Entities.{entities_of, entity_number}
+use Rattle.sap_shape.specs.WellFormed.{WellFormed}
 use Rattle.sap_meaning.specs.Program.{Program}
 use Rattle.sap_resolved.specs.Fill.{program_of}
 use Rattle.sap_machine.specs.declared.user.User.{User}
@@ -11,6 +14,10 @@ use Rattle.sap_machine.specs.Design.{machine_design}
 
 unfoldable pub machine : Program
 machine = program_of diamond machine_design
+
+-- a design that is the same as this one, places aside, is well formed, and its program is the machine
+abbrev pub PlacesDontCount : Type 0
+PlacesDontCount = (tree : DesignTree) → bare tree ≡ bare machine_design → WellFormed diamond tree × (program_of diamond tree ≡ machine)
 
 -- the number of the entity of this name
 abbrev pub entity : (name : List ℕ) → ℕ

@@ -1,5 +1,6 @@
-use Rattle.std.proofs.Common.{ap, ◌∙◌}
+use Rattle.std.proofs.Common.{◌≡◌, ap, ◌∙◌}
 use Rattle.sap_tree.specs.Prelude.{bare, design_of}
+use Rattle.sap_machine.specs.Design.{machine_design}
 use Rattle.sap_machine.specs.DesignText.{machine_text}
 use Rattle.sap_cpu.proofs.machine.machine.Goals as goal
 
@@ -10,5 +11,9 @@ unreachable-requires c =
 
 pub returns-in-Ok : goal.returns-in-Ok
 returns-in-Ok c =
-    let known = c.design_is_sound.ensures.reads_back in
-    ap bare (c.one_reading.ensures.one_design machine_text (design_of c.in-Ok.design) known.0 (c.in-Ok.ensures {u = tt}).design known.1) ∙ known.2
+    let sound = c.design_is_sound.ensures in
+    let known = sound.reads_back in
+    let same : bare (design_of c.in-Ok.design) ≡ bare machine_design =
+    ap bare (c.one_reading.ensures.one_design machine_text (design_of c.in-Ok.design) known.0 (c.in-Ok.ensures {u = tt}).design known.1) ∙ known.2 in
+    let kept = sound.places (design_of c.in-Ok.design) same in
+    record { design = same; well_formed = kept.0; program = kept.1 }

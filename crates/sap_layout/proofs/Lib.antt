@@ -1,0 +1,12 @@
+pub mod Asides
+pub mod Closing
+pub mod Commands
+pub mod Entities
+pub mod Formed
+pub mod NameFaults
+pub mod Paths
+pub mod Programs
+pub mod ShapeFaults
+pub mod Sites
+pub mod Terms
+pub mod Walked
