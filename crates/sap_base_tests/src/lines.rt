@@ -6,7 +6,7 @@ use sap_desk::{Desk, MemoryDesk};
 use sap_latfile::read_lattice;
 use sap_lattice::lattice::Lattice;
 use sap_lines::{Lines, Next};
-use sap_stim::{Field, Fields};
+use sap_stim::{Field, Fields, StimCode, StimFault};
 use std::alloc::{AllocError, Global};
 
 const TWO: &str = "levels = [\"low\", \"high\"]\nbelow = [[\"low\", \"high\"]]\n";
@@ -77,6 +77,30 @@ fn gives(alloc: Global, failing: u64, last: Next, lines: usize) -> bool {
     matches!(read(alloc, failing, last), Ok(Some(count)) if count == lines)
 }
 
+/// Whether the second line, which is refused, is told without a second read: the first call opens the file, the second
+/// reads all of it, and the third would fail.
+fn tells_before_a_second_read(alloc: Global) -> Result<bool, AllocError> {
+    let Ok(lattice) = read_lattice(alloc, TWO.as_bytes()) else {
+        return Ok(false);
+    };
+    let mut desk = MemoryDesk::new(alloc, 0)?;
+    desk.put_file("stimulus", b"5@low\n256@low\n")?;
+    desk.fail_at(3)?;
+    let Ok(channel) = desk.open_in("stimulus") else {
+        return Ok(false);
+    };
+    let fields = Fields::new(vec![in alloc; Field::Tagged(8)]?);
+    let mut reader = Lines::new(alloc, &fields)?;
+    if reader.next(&mut desk, channel, &lattice) != Next::Line || !reader.live() {
+        return Ok(false);
+    }
+    let refused = Next::Fault(StimFault {
+        line: 2,
+        code: StimCode::S2,
+    });
+    Ok(reader.next(&mut desk, channel, &lattice) == refused)
+}
+
 // 585 lines are 4,095 bytes, and 1,170 lines are 8,190.
 #[test]
 fn gives_the_lines_before_a_failed_read(rt: HostRuntime) {
@@ -86,4 +110,9 @@ fn gives_the_lines_before_a_failed_read(rt: HostRuntime) {
     assert!(rt; gives(alloc, 4, Next::Failed, 1170));
     assert!(rt; gives(alloc, 5, Next::Failed, 1200));
     assert!(rt; gives(alloc, 6, Next::End, 1200));
+}
+
+#[test]
+fn tells_a_refused_line_before_a_second_read(rt: HostRuntime) {
+    assert!(rt; matches!(tells_before_a_second_read(rt.alloc()), Ok(true)));
 }

@@ -1,5 +1,5 @@
 -- What an answer says, once the next line was told.
-use Rattle.sap_lemmas.proofs.Common.{◌≡◌, ℕ, ◌+◌, ◌<◌, Bool, false, List, [], ◌++◌, take, drop, append_assoc, refl, sym, ap, ◌∙◌, subst, inl, inr, arith, ◌⊎◌, ◌^◌, IsTrue, Option, Some, None, IfSome}
+use Rattle.sap_lemmas.proofs.Common.{◌≡◌, ℕ, ◌+◌, ◌-◌, ◌<◌, Bool, false, List, [], ◌++◌, length, length-append, take, drop, append_assoc, refl, sym, ap, ◌∙◌, subst, inl, inr, arith, ◌⊎◌, ◌^◌, IsTrue, Option, Some, None, IfSome}
 use Rattle.sap_desk.specs.Desk.{Told, moved, name_if_reading, rest_of}
 use Rattle.sap_desk.specs.Cause.{counted}
 use Rattle.sap_desk.specs.Whole.{Between}
@@ -11,9 +11,10 @@ use Rattle.sap_stim.specs.declared.stimulus.Parsed.{Parsed}
 use Rattle.sap_stim.specs.Stimulus.{read_from}
 use Rattle.sap_lines.specs.declared.next.Next.{Next}
 use Rattle.sap_lines.specs.declared.next.Next.TheVariants.{Line, End, Fault, Failed}
-use Rattle.sap_lines.specs.Answers.{is_failed, is_line, count_after, Tells, TellsBy, ReadOn, blamed_by}
+use Rattle.sap_lines.specs.Answers.{is_failed, is_line, count_after, BeginsWith, Tells, TellsBy, ReadOn, blamed_by}
 use Rattle.sap_lines.specs.Reader.{Reader, to_come}
 use Rattle.sap_lines.specs.Fetched.{IsDecided, EndsOrDecided, More}
+use Rattle.sap_lines.proofs.Reading.{read_count}
 
 -- the count of lines is that of the next
 tells_after : (next : Next) (count : ℕ) (p q : Parsed) (of : ℕ → Parsed) (line : Span) → count < 2 ^ 32 → Tells next p line (of (count + 2))
@@ -75,6 +76,31 @@ still_tells ls fs count held now later line next same =
 
 pub still_decided : (held now : List ℕ) (next : Next) → now ≡ held → (IsTrue (is_line next) → IsDecided now) → IsTrue (is_line next) → IsDecided held
 still_decided held now next same = subst (λ (s : List ℕ). IsTrue (is_line next) → IsDecided s) same
+
+pub still_takes : (ls : Levels) (fs : List Field) (held now later : List ℕ) (line : Span) (next : Next) → now ≡ held
+    → (IsTrue (is_line next) → BeginsWith ls fs now line later) → IsTrue (is_line next) → BeginsWith ls fs held line later
+still_takes ls fs held now later line next same = subst (λ (s : List ℕ). IsTrue (is_line next) → BeginsWith ls fs s line later) same
+
+-- the line that is taken, of what was held and what was read behind it
+
+module _ (ls : Levels) (fs : List Field) (held now later : List ℕ) (line : Span) (r : Reader) (same : fs ≡ r.fields) (pending : held ≡ r.pending)
+    (begins : BeginsWith ls fs now line later) where
+  pub takes_line : (more : List ℕ) → now ≡ held ++ more → BeginsWith ls r.fields (r.pending ++ more) line later
+  takes_line more is =
+      let bytes : now ≡ r.pending ++ more = is ∙ ap (λ (xs : List ℕ). xs ++ more) pending in
+      subst (λ (list : List Field). BeginsWith ls list (r.pending ++ more) line later) same (subst (λ (s : List ℕ). BeginsWith ls fs s line later) bytes begins)
+
+  pub takes_read : (channel read : ℕ) (told : Option Told) → IfSome told (λ t. now ≡ held ++ take read (rest_of t channel))
+      → IfSome told (λ t. BeginsWith ls r.fields (r.pending ++ take read (rest_of t channel)) line later)
+  takes_read channel read None is = tt
+  takes_read channel read (Some t) is = takes_line (take read (rest_of t channel)) is
+
+  pub takes_some : (channel : ℕ) (told told_now : Option Told) (g h : ℕ → ℕ) → More channel held now told told_now g h → (piece : List ℕ) → now ≡ held ++ piece
+      → (more : List ℕ) × (length more ≡ h channel - g channel) × BeginsWith ls r.fields (r.pending ++ more) line later
+  takes_some channel told told_now g h m piece is =
+      let read : h channel - g channel ≡ m.count = read_count channel m.count g h m.given in
+      let sum : length now ≡ length held + length piece = ap length is ∙ length-append held piece in
+      (piece, omega (arith, m.size, sum, read), takes_line piece is)
 
 -- on every desk
 

@@ -9,6 +9,7 @@ use Rattle.sap_stim.specs.Line.{line_of}
 use Rattle.sap_stim.specs.Stimulus.{ahead, finished, stopped, going_on, read_from}
 use Rattle.sap_stim.proofs.Pieces.{is_mark, before_unmarked, length_before}
 use Rattle.sap_stim.proofs.Lines.{read_line}
+use Rattle.sap_lines.specs.Answers.{BeginsWith}
 use Rattle.sap_lines.specs.Fetched.{IsDecided}
 
 abbrev pub place : List ℕ → ℕ
@@ -187,11 +188,29 @@ end_there ls fs s bytes text line same given =
     let l : length bytes ≡ length s = ap length same in
     omega arith
 
+marked_by : (ls : Levels) (fs : List Field) (s bytes text : List ℕ) (line : Span) → bytes ≡ s → text ≡ before bytes
+    → Ok line ≡ line_of ls fs (ltb (length text) (length bytes)) text → place s < length s
+marked_by ls fs s bytes text line same is_line given =
+    let test : ltb (length (before s)) (length s) ≡ ltb (length text) (length bytes) = sym (ap₂ (λ (x y : List ℕ). ltb (length x) (length y)) (is_line ∙ ap before same) same) in
+    ok_marked s (test ∙ ok_ended ls fs (ltb (length text) (length bytes)) text line given)
+
 pub decided_by : (ls : Levels) (fs : List Field) (s bytes text : List ℕ) (line : Span) → bytes ≡ s → text ≡ before bytes
     → Ok line ≡ line_of ls fs (ltb (length text) (length bytes)) text → IsDecided s
-decided_by ls fs s bytes text line same is_line given =
-    let test : ltb (length (before s)) (length s) ≡ ltb (length text) (length bytes) = sym (ap₂ (λ (x y : List ℕ). ltb (length x) (length y)) (is_line ∙ ap before same) same) in
-    inr (marked_any s (ok_marked s (test ∙ ok_ended ls fs (ltb (length text) (length bytes)) text line given)))
+decided_by ls fs s bytes text line same is_line given = inr (marked_any s (marked_by ls fs s bytes text line same is_line given))
+
+-- they begin with it
+pub begins_by : (ls : Levels) (fs : List Field) (s bytes text now : List ℕ) (line : Span) → bytes ≡ s → text ≡ before bytes
+    → Ok line ≡ line_of ls fs (ltb (length text) (length bytes)) text → now ≡ drop (length text + 1) s → BeginsWith ls fs s line now
+begins_by ls fs s bytes text now line same is_line given left =
+    let marked : place s < length s = marked_by ls fs s bytes text line same is_line given in
+    let first : text ≡ before s = is_line ∙ ap before same in
+    let size : length text ≡ place s = ap length first ∙ length_before 10 s marked in
+    record {
+      ended = marked_any s marked;
+      gives = sym (given
+          ∙ ap₂ (λ (b : Bool) (t : List ℕ). line_of ls fs b t) (ok_ended ls fs (ltb (length text) (length bytes)) text line given) first);
+      behind = left ∙ ap (λ (k : ℕ). drop (k + 1) s) size;
+    }
 
 pub shorter_by : (s now : List ℕ) (n : ℕ) → n + 1 ≤ length s → now ≡ drop (n + 1) s → length now + 1 ≤ length s
 shorter_by s now n h left =
@@ -216,6 +235,14 @@ ahead_of ls fs count len s bytes rest now line same at within given left =
     let test : ltb (length (before s)) (length s) ≡ true = lt-ltb (length (before s)) (length s) (omega (arith, size, marked)) in
     line_taken ls fs (count + 1) (count + 2) s rest (before s) now true line (omega (arith, marked)) (inl (inr (marked_any s marked))) refl (sym test)
     (given ∙ ap (λ (x : List ℕ). line_of ls fs true (before x)) same) (left ∙ ap (λ (k : ℕ). drop (k + 1) s) sizes) (omega arith)
+
+pub ahead_begins : (ls : Levels) (fs : List Field) (len : ℕ) (s bytes now : List ℕ) (line : Span) → bytes ≡ s → len ≡ place bytes → len < length bytes
+    → Ok line ≡ line_of ls fs true (before bytes) → now ≡ drop (len + 1) s → BeginsWith ls fs s line now
+ahead_begins ls fs len s bytes now line same at within given left = record {
+  ended = marked_any s (has_lf s bytes len same at within);
+  gives = sym (given ∙ ap (λ (x : List ℕ). line_of ls fs true (before x)) same);
+  behind = left ∙ ap (λ (k : ℕ). drop (k + 1) s) (at ∙ ap place same);
+}
 
 pub ahead_decided : (s bytes : List ℕ) (len : ℕ) → bytes ≡ s → len ≡ place bytes → len < length bytes → IsDecided s
 ahead_decided s bytes len same at within = inr (marked_any s (has_lf s bytes len same at within))

@@ -1,10 +1,13 @@
 -- What each answer of a reader says.
-use Rattle.std.specs.Prelude.{◌≡◌, ℕ, ◌+◌, ◌⊎◌, List, [], ◌++◌, Bool, true, false, IsTrue, Option, Some, option_map}
+use Rattle.std.specs.Prelude.{◌≡◌, ℕ, ◌+◌, ◌⊎◌, List, [], ◌++◌, ◌==◌, length, Bool, true, false, IsTrue, Option, Some, Ok, option_map}
+use Rattle.std.specs.List.{after_first, before_first, list_any}
 use Rattle.sap_desk.specs.Cause.{counted}
 use Rattle.sap_desk.specs.Desk.{Told, at_number, blame_at, moved, name_if_reading}
 use Rattle.sap_lattice.specs.Levels.{Levels}
 use Rattle.sap_stream.specs.Spans.{Span}
+use Rattle.sap_stim.specs.declared.field.Field.{Field}
 use Rattle.sap_stim.specs.declared.stimulus.Parsed.{Parsed}
+use Rattle.sap_stim.specs.Line.{line_of}
 use Rattle.sap_stim.specs.Stimulus.{ahead, finished}
 use Rattle.sap_lines.specs.declared.next.Next.{Next}
 use Rattle.sap_lines.specs.declared.next.Next.TheVariants.{Line, End, Fault, Failed}
@@ -50,6 +53,20 @@ TellsBy ls next was now more = (rest : List ℕ) → IsTrue (is_line next) ⊎ (
 -- on every desk it tells this by some bytes
 abbrev pub TellsSome : Levels → Next → (was now : Reader) → Type 0
 TellsSome ls next was now = (more : List ℕ) × TellsBy ls next was now more
+
+-- These bytes begin with a line, and its LF is among them: this is what it gives, and these bytes stand behind the LF.
+pub record BeginsWith (ls : Levels) (fs : List Field) (bytes : List ℕ) (line : Span) (left : List ℕ) : Type 0 where
+  pub ended : list_any (λ b. b == 10) bytes ≡ true
+  pub gives : line_of ls fs true (before_first (λ b. b == 10) bytes) ≡ Ok line
+  pub behind : left ≡ after_first (λ b. b == 10) bytes
+
+-- a line is taken: the pending bytes, and these behind them, begin with it, and what stands behind its LF is pending then
+abbrev pub TakesLine : Levels → (was now : Reader) → (more : List ℕ) → Type 0
+TakesLine ls was now more = BeginsWith ls was.fields (was.pending ++ more) now.line now.pending
+
+-- on every desk it is taken of the pending bytes and of so many more
+abbrev pub TakesSome : Levels → (was now : Reader) → (count : ℕ) → Type 0
+TakesSome ls was now count = (more : List ℕ) × (length more ≡ count) × TakesLine ls was now more
 
 -- a failed call counts once, as a fault
 abbrev pub Counted : Next → (faults now : ℕ) → Type 0

@@ -11,7 +11,7 @@ pub record Reader : Type 0 where
   pub fields : List Field
   -- whether a further line may be asked for
   pub live : Bool
-  -- what the last line gave
+  -- what the last line gave; nothing is said of it where the last answer was no line, or none was asked for
   pub line : Span
   -- how many lines were given; the count stands still at 2^64 - 1
   pub count : ℕ

@@ -2,7 +2,6 @@
 
 ghost use Rattle.std.specs.Prelude.{◌≡◌, ◌≢◌, ◌<◌, ◌^◌, ◌↔◌, ◌++◌, ℕ, List, IsTrue, OnOk, OnErr, IfSome};
 ghost use Rattle.sap_desk.specs.Cause.{CountsAt, FailsToRead};
-ghost use Rattle.sap_desk.specs.Whole.{Between};
 ghost use Rattle.sap_lines.specs.Fetched.{EndsOrDecided, HoldsLeast, IsDecided, More, MoreAndFailed};
 
 use crate::PIECE_BYTES;

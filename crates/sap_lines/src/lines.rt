@@ -1,13 +1,13 @@
 //! The reader.
 
-ghost use Rattle.std.specs.Prelude.{◌≡◌, ◌≢◌, ◌+◌, ◌-◌, ◌≤◌, ◌<◌, ◌^◌, ◌⊎◌, ◌↔◌, ◌++◌, All, IfOk, IfSome, IsTrue, true, length, take};
+ghost use Rattle.std.specs.Prelude.{◌≡◌, ◌≢◌, ◌+◌, ◌-◌, ◌<◌, ◌^◌, ◌↔◌, ◌++◌, All, IfOk, IfSome, IsTrue, true, length, take};
 ghost use Rattle.sap_desk.specs.Cause.{FailsToRead};
 ghost use Rattle.sap_desk.specs.Desk.{rest_of};
 ghost use Rattle.sap_desk.specs.Whole.{Between};
 ghost use Rattle.sap_stim.specs.Fits.{LineFits};
 ghost use Rattle.sap_stim.specs.Line.{IsSized};
 ghost use Rattle.sap_stream.specs.Spans.{IsCount};
-ghost use Rattle.sap_lines.specs.Answers.{Counted, ReadOn, Tells, TellsBy, TellsSome, count_after, is_failed, is_line};
+ghost use Rattle.sap_lines.specs.Answers.{Counted, ReadOn, TakesLine, TakesSome, Tells, TellsBy, TellsSome, count_after, is_failed, is_line};
 ghost use Rattle.sap_lines.specs.Fetched.{IsDecided, ReadsLeast};
 ghost use Rattle.sap_lines.specs.Reader.{Backed, IsNew, to_come};
 ghost use Rattle.sap_lines.specs.declared.TheConstants.{PIECE_BYTES};
@@ -31,7 +31,7 @@ use std::marker::Model;
 pub struct Lines {
     fields: Vec<Field>,
     held: Held,
-    // what the last line gave, and for how many cycles
+    // what the last line gave, and for how many cycles; nothing is said of them where the last answer was no line
     inputs: Inputs,
     cycles: u32,
     count: u64,
@@ -77,14 +77,16 @@ impl Lines {
         self.live
     }
 
-    /// What the last line gave for each of its cycles.
+    /// What the last line gave for each of its cycles. Nothing is said of them where the last answer was no line, or none
+    /// was asked for.
     pub fn inputs(&self) -> &Inputs
         ensures { result.now ≡ self.now.line.inputs }
     {
         &self.inputs
     }
 
-    /// For how many cycles the last line stands. It takes no memory.
+    /// For how many cycles the last line stands. Only its range is said where the last answer was no line, or none was
+    /// asked for. It takes no memory.
     pub fn count(&self) -> u32
         ensures number { result ≡ self.now.line.count }
         ensures within { IsCount self.now.line.count }
@@ -110,6 +112,9 @@ impl Lines {
         ensures some { self.old.count < 2 ^ 32 → TellsSome lattice.now result self.old self.new }
         ensures by { self.old.count < 2 ^ 32 → IfSome (D.told desk.old)
             (λ t. TellsBy lattice.now result self.old self.new (take (D.given desk.new channel - D.given desk.old channel) (rest_of t channel))) }
+        ensures takes { IsTrue (is_line result) → IfSome (D.told desk.old)
+            (λ t. TakesLine lattice.now self.old self.new (take (D.given desk.new channel - D.given desk.old channel) (rest_of t channel))) }
+        ensures takes_some { IsTrue (is_line result) → TakesSome lattice.now self.old self.new (D.given desk.new channel - D.given desk.old channel) }
         ensures fits { IsTrue self.new.live → LineFits lattice.now self.new.fields self.new.line.inputs }
         ensures live { self.new.live ≡ is_line result }
         ensures fields { self.new.fields ≡ self.old.fields }

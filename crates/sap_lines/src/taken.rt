@@ -5,7 +5,7 @@ ghost use Rattle.sap_stim.specs.Fits.{LineFits};
 ghost use Rattle.sap_stim.specs.Line.{IsSized, line_of, with_inputs};
 ghost use Rattle.sap_stim.specs.Stimulus.{ahead, read_from};
 ghost use Rattle.sap_stream.specs.Spans.{IsCount};
-ghost use Rattle.sap_lines.specs.Answers.{Tells, is_failed, is_line, lines_in};
+ghost use Rattle.sap_lines.specs.Answers.{BeginsWith, Tells, is_failed, is_line, lines_in};
 ghost use Rattle.sap_lines.specs.Fetched.{IsDecided};
 
 use crate::Next;
@@ -26,6 +26,7 @@ pub fn take_ahead(
     requires places { length inputs.old ≡ length fields.now }
     ensures tells { IfSome result (λ cycles. (count : ℕ) (rest : List ℕ) → read_from lattice.now fields.now (count + 1) (held.old ++ rest)
         ≡ ahead (record { inputs = inputs.new; count = cycles }) (read_from lattice.now fields.now (count + 2) (held.new ++ rest))) }
+    ensures takes { IfSome result (λ cycles. BeginsWith lattice.now fields.now held.old (record { inputs = inputs.new; count = cycles }) held.new) }
     ensures decided { IfSome result (λ _. IsDecided held.old) }
     ensures fits { IfSome result (λ _. LineFits lattice.now fields.now inputs.new) }
     ensures cycles { IfSome result IsCount }
@@ -74,6 +75,7 @@ pub fn take_line(
     requires cycles { IsCount cycles.old }
     ensures tells { (rest : List ℕ) → IsDecided held.old ⊎ (rest ≡ []) → count < 2 ^ 32
         → Tells result (read_from lattice.now fields.now (count + 1) (held.old ++ rest)) (record { inputs = inputs.new; count = cycles.new }) (read_from lattice.now fields.now (count + 2) (held.new ++ rest)) }
+    ensures takes { IsTrue (is_line result) → BeginsWith lattice.now fields.now held.old (record { inputs = inputs.new; count = cycles.new }) held.new }
     ensures decided { IsTrue (is_line result) → IsDecided held.old }
     ensures answered { is_failed result ≡ false }
     ensures fits { IsTrue (is_line result) → LineFits lattice.now fields.now inputs.new }

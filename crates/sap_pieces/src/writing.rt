@@ -1,6 +1,6 @@
 //! Writing pieces, and a text before them.
 
-ghost use Rattle.std.specs.Prelude.{◌≡◌, ◌++◌, ◌<◌, ◌≤◌, ℕ, List, [], OnOk, OnErr, IfSome, IsErrOf, length, option_map};
+ghost use Rattle.std.specs.Prelude.{◌≡◌, ◌++◌, ◌<◌, ◌≤◌, ℕ, List, [], OnOk, OnErr, IfSome, IsErrOf, option_map};
 ghost use Rattle.sap_desk.specs.Cause.{CountsAt, CountsOpen, FailsToWrite, FillsRoom};
 ghost use Rattle.sap_desk.specs.Desk.{IsWriting, added};
 ghost use Rattle.sap_desk.specs.Whole.{Between, CountsFailed, CutOutput, FailedWriting, FillsFile, OneMore, Wrote};
@@ -69,6 +69,7 @@ fn write_behind<D: Desk, P: Pieces>(
     ensures told { OnOk result ((text : List ℕ) → P.comes pieces.old text → D.told desk.new ≡ option_map (added channel (beginning.now ++ text)) (D.told desk.old)) }
     ensures failed { OnErr result ((text : List ℕ) → P.comes pieces.old text → CutOff channel (beginning.now ++ text) (D.told desk.old) (D.told desk.new)) }
     ensures cause { OnErr result ((text : List ℕ) → P.comes pieces.old text → D.sure desk.old → IfSome (D.told desk.old) (λ t. FailsToWrite channel (beginning.now ++ text) t (D.told desk.new))) }
+    ensures given { D.given desk.new ≡ D.given desk.old }
     ensures counts { CountsAt channel (D.faults desk.old) (D.faults desk.new) (D.lost desk.old) (D.lost desk.new) result }
     ensures sure { D.sure desk.old → D.sure desk.new }
 {
@@ -91,6 +92,7 @@ pub fn write_pieces<D: Desk, P: Pieces>(
     ensures ok { OnOk result ((text : List ℕ) → P.comes pieces.old text → Between (D.told desk.old) (D.told desk.new) (Wrote name.now (beginning.now ++ text))) }
     ensures failed { IsErrOf result DeskError.Failed → (text : List ℕ) → P.comes pieces.old text → Between (D.told desk.old) (D.told desk.new) (FailedWriting name.now (beginning.now ++ text)) }
     ensures memory { IsErrOf result DeskError.Memory → D.told desk.new ≡ D.told desk.old }
+    ensures given { D.given desk.new ≡ D.given desk.old }
     ensures counts { CountsOpen (D.faults desk.old) (D.faults desk.new) (D.lost desk.old) (D.lost desk.new) result }
     ensures sure { D.sure desk.old → D.sure desk.new }
     ensures cause { IsErrOf result DeskError.Failed → D.sure desk.old → (text : List ℕ) → P.comes pieces.old text → Between (D.told desk.old) (D.told desk.new) (FillsFile name.now (beginning.now ++ text)) }

@@ -31,6 +31,7 @@ pub record SoFar (base shows : Shows) (ls : Levels) (fs : List Field) (channel c
   pub shown_along : ShowsAlong base (cycles_of lines) (gained ++ waiting)
   pub needed : IsNeeded (printed_fault ls fs) (rest_of t channel) count
   pub written : IsWritten Output (printed_text base ls fs) (rest_of t channel) count gained
+  pub blame : n.blame ≡ t.blame
 
 -- on the way: the steps stand behind the cycles of some lines
 pub record Along (base shows : Shows) (ls : Levels) (fs : List Field) (channel : ℕ) (stands : List (List Given)
@@ -54,6 +55,7 @@ module _ (shows : Shows) (ls : Levels) (fs : List Field) (channel : ℕ) where
     shown_along = λ first. ([], [], subst (λ (cycles : List (List Given)). shows cycles []) (sym (take_all first [] (omega arith))) shown, refl);
     needed = needed_none ls fs (rest_of t channel);
     written = written_none shows ls fs (rest_of t channel) shown;
+    blame = refl;
   }
 
   pub along_begins : (stands : List (List Given) → Type 0) (r : Reader) (given : ℕ) (waiting : List ℕ) (o : Option Told) → Begins → IsNew fs r → given ≡ 0 → waiting ≡ []
@@ -180,6 +182,7 @@ module _ (ls : Levels) (fs : List Field) (channel count k : ℕ) (lines : List S
       needed = needed_on base shows back ls fs channel count k lines r s waiting quiet t m so read.least;
       written = written_more base ls fs (rest_of t channel) (count + k) so.gained piece
           (written_on base shows back ls fs channel count k lines r s waiting quiet t m so read.least);
+      blame = so.blame;
     }
 
 pub along_more : (base shows later : Shows) (back : (lines : List (List Given)) (text : List ℕ) → shows lines text → base lines text) (ls : Levels) (fs : List Field) (channel : ℕ)

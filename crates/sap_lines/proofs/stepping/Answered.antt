@@ -79,6 +79,7 @@ module _ (base shows : Shows) (back : (lines : List (List Given)) (text : List â
       enough = enough âˆ™ sym is;
       needed = needed_on base shows back ls fs channel given k lines r s waiting quiet t m so read.least;
       written = written_on base shows back ls fs channel given k lines r s waiting quiet t m so read.least;
+      blame = so.blame;
     }
 
     -- what all bytes give, and what those give that were read

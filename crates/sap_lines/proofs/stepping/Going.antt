@@ -1,5 +1,5 @@
 -- What reading a channel and writing on channel 1 make of a desk, one after another.
-use Rattle.sap_lemmas.proofs.Common.{◌≡◌, ℕ, ◌+◌, ◌<◌, true, List, [], ◌∷◌, ◌++◌, length, append_assoc, refl, sym, ◌∙◌, ap, arith, eqb, Option, unwrap_or, cond, Bool, drop, nat_tests, append-nil}
+use Rattle.sap_lemmas.proofs.Common.{◌≡◌, ◌≢◌, ℕ, ◌+◌, ◌<◌, true, false, List, [], ◌∷◌, ◌++◌, length, append_assoc, refl, sym, ◌∙◌, ap, arith, eqb, Option, unwrap_or, cond, Bool, drop, nat_tests, append-nil}
 use Rattle.sap_desk.specs.Desk.{Told, Use, reads, writes, closed, stream, IsReading, added, at_number, blamed, moved, moved_use, rest_of, rest_of_use}
 use Rattle.sap_desk.proofs.Steps.{at_number-keeps, at_number-same, moved-none, moved-twice, other_number}
 use Rattle.sap_lines.specs.Stepping.Followed.{Going}
@@ -9,9 +9,15 @@ going_none channel t = record {
   uses = ap (λ (x : Told). x.uses) (sym (moved-none channel t));
   files = refl;
   output = sym (append-nil (t.written 1));
-  lines = refl;
+  others = λ k other. refl;
   room = refl;
 }
+
+-- a text on channel 1 is on no other
+others_added : (piece : List ℕ) (t m : Told) → ((k : ℕ) → k ≢ 1 → m.written k ≡ t.written k) → (k : ℕ) → k ≢ 1 → (added 1 piece m).written k ≡ t.written k
+others_added piece t m others k other =
+    let no : eqb k 1 ≡ false = grind (arith, nat_tests) in
+    ap (λ (b : Bool). cond b (m.written 1 ++ piece) (m.written k)) no ∙ others k other
 
 module _ (channel count : ℕ) (gained : List ℕ) (t m : Told) (going : Going channel count gained t m) where
   uses_more : (k : ℕ) → (moved channel k m).uses ≡ at_number channel (moved_use (count + k) (t.uses channel)) t.uses
@@ -20,14 +26,14 @@ module _ (channel count : ℕ) (gained : List ℕ) (t m : Told) (going : Going c
       ∙ ap (λ (x : Told). x.uses) (moved-twice channel count k t)
 
   pub going_read : (k : ℕ) → Going channel (count + k) gained t (moved channel k m)
-  going_read k = record { uses = uses_more k; files = going.files; output = going.output; lines = going.lines; room = going.room }
+  going_read k = record { uses = uses_more k; files = going.files; output = going.output; others = going.others; room = going.room }
 
   pub going_more : (k : ℕ) (piece : List ℕ) → Going channel (count + k) (gained ++ piece) t (added 1 piece (moved channel k m))
   going_more k piece = record {
     uses = uses_more k;
     files = going.files;
     output = ap (λ (l : List ℕ). l ++ piece) going.output ∙ append_assoc (t.written 1) gained piece;
-    lines = going.lines;
+    others = others_added piece t m going.others;
     room = going.room;
   }
 
@@ -36,7 +42,7 @@ module _ (channel count : ℕ) (gained : List ℕ) (t m : Told) (going : Going c
     uses = going.uses;
     files = going.files;
     output = ap (λ (l : List ℕ). l ++ piece) going.output ∙ append_assoc (t.written 1) gained piece;
-    lines = going.lines;
+    others = others_added piece t m going.others;
     room = going.room;
   }
 
@@ -49,7 +55,7 @@ module _ (channel count : ℕ) (gained : List ℕ) (t m : Told) (going : Going c
       ap (λ (u : ℕ → Use). u 1) going.uses ∙ ap (λ (b : Bool). cond b (moved_use count (t.uses channel)) (t.uses 1)) other
 
 pub going_blamed : (channel count : ℕ) (gained name : List ℕ) (t m : Told) → Going channel count gained t m → Going channel count gained t (blamed name m)
-going_blamed channel count gained name t m g = record { uses = g.uses; files = g.files; output = g.output; lines = g.lines; room = g.room }
+going_blamed channel count gained name t m g = record { uses = g.uses; files = g.files; output = g.output; others = g.others; room = g.room }
 
 pub reading_moved : (n : ℕ) (u : Use) → IsReading u → IsReading (moved_use n u)
 reading_moved n (reads name p) h = tt

@@ -25,6 +25,7 @@ module _ (shows : Shows) (ls : Levels) (fs : List Field) (channel : ℕ) (fault 
     enough = f.enough;
     needed = f.needed;
     written = written_more shows ls fs (rest_of t channel) f.count f.gained waiting f.written;
+    blame = f.blame;
   }
 
   pub whole_written : (before mid one : Option Told) → one ≡ option_map (added 1 waiting) mid → Between before mid (Followed shows ls fs channel fault waiting)

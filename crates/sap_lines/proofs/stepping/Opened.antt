@@ -88,7 +88,21 @@ module _ (channel : ℕ) (name : List ℕ) (above : 2 < channel) (t n : Told) (c
         }
 
     grew : OutputGrew gained t n
-    grew = record { files = going.files; output = going.output; lines = going.lines; room = going.room }
+    grew = record {
+      files = going.files;
+      output = going.output;
+      lines = going.others 2 (omega arith);
+      others = going.others;
+      room = going.room;
+    }
+
+    -- of the desk that finished the channel, or blames its file for it
+
+    finished_grew : OutputGrew gained t (finished channel n)
+    finished_grew = record { files = grew.files; output = grew.output; lines = grew.lines; others = grew.others; room = grew.room }
+
+    blamed_grew : OutputGrew gained t (blamed (name_if_open (n.uses channel)) n)
+    blamed_grew = record { files = grew.files; output = grew.output; lines = grew.lines; others = grew.others; room = grew.room }
 
   module _ (shows : Shows) (ls : Levels) (fs : List Field) where
     all_shown : (fault : Option StimFault) (f : Followed shows ls fs channel fault [] (opened channel name t) n)
@@ -102,8 +116,9 @@ module _ (channel : ℕ) (name : List ℕ) (above : 2 < channel) (t n : Told) (c
       is_fault = f.is_fault ∙ ap (λ (bytes : List ℕ). (stimulus_of ls fs bytes).fault) whole;
       gained = f.gained;
       shown = subst (λ (bytes : List ℕ). shows (stimulus_of ls fs bytes).stream f.gained) whole (all_shown fault f);
-      grew = record { files = f.going.files; output = f.going.output; lines = f.going.lines; room = f.going.room };
+      grew = finished_grew f.count f.gained f.going;
       uses = uses_finished f.count f.gained f.going;
+      blame = f.blame;
     }
 
     pub cut_short : (why : FailedCall) → Broken shows ls fs channel why (opened channel name t) n → CutShort shows ls fs name why t n
@@ -125,7 +140,7 @@ module _ (channel : ℕ) (name : List ℕ) (above : 2 < channel) (t n : Told) (c
         subst (λ (x : Told). CutShort shows ls fs name Input t x) (sym (blame_is channel name n above (name_if_open (n.uses channel)) n))
         (record {
           gained = f.gained;
-          grew = record { files = f.going.files; output = f.going.output; lines = f.going.lines; room = f.going.room };
+          grew = blamed_grew f.count f.gained f.going;
           blame = ap name_if_open (use_is f.count f.gained f.going);
           stays = left_open f.count f.gained f.going Input (printed_text shows ls fs) (printed_fault ls fs) f.needed
               (subst (λ (p : Parsed). shows p.stream f.gained) (sym f.enough) (all_shown fault f));

@@ -1,5 +1,5 @@
 -- What comes of the lines of a channel that is read by one line after another.
-use Rattle.std.specs.Prelude.{◌≡◌, ℕ, List, ◌++◌, length, take, codes, Option, Result, Ok, Err}
+use Rattle.std.specs.Prelude.{◌≡◌, ◌≢◌, ℕ, List, ◌++◌, length, take, codes, Option, Result, Ok, Err}
 use Rattle.sap_desk.specs.Desk.{Told, IsReading, IsWriting, at_number, moved_use, name_if_reading, rest_of}
 use Rattle.sap_desk.specs.Cause.{counted}
 use Rattle.sap_lattice.specs.Levels.{Levels}
@@ -18,7 +18,7 @@ pub record Going (channel count : ℕ) (gained : List ℕ) (t n : Told) : Type 0
   pub uses : n.uses ≡ at_number channel (moved_use count (t.uses channel)) t.uses
   pub files : n.files ≡ t.files
   pub output : n.written 1 ≡ t.written 1 ++ gained
-  pub lines : n.written 2 ≡ t.written 2
+  pub others : (k : ℕ) → k ≢ 1 → n.written k ≡ t.written k
   pub room : n.room ≡ t.room
 
 -- the beginning of what is shown of the first lines of a stimulus
@@ -39,6 +39,7 @@ pub record Followed (shows : Shows) (ls : Levels) (fs : List Field) (channel : �
   pub enough : stimulus_of ls fs (take count (rest_of t channel)) ≡ stimulus_of ls fs (rest_of t channel)
   pub needed : IsNeeded (printed_fault ls fs) (rest_of t channel) count
   pub written : IsWritten Output (printed_text shows ls fs) (rest_of t channel) count gained
+  pub blame : n.blame ≡ t.blame
 
 -- on every desk: some bytes have this fault, or have none
 abbrev pub IsFaultOfSome : Levels → List Field → Option StimFault → Type 0

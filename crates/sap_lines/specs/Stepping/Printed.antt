@@ -1,5 +1,5 @@
 -- What comes of a stimulus that is printed.
-use Rattle.std.specs.Prelude.{◌≡◌, ◌⊎◌, ℕ, ◌<◌, List, ◌++◌, Option, Some, None}
+use Rattle.std.specs.Prelude.{◌≡◌, ◌≢◌, ◌⊎◌, ℕ, ◌<◌, List, ◌++◌, Option, Some, None}
 use Rattle.sap_desk.specs.Desk.{Told, Use, closed, reads, at_number, blamed, bytes_of}
 use Rattle.sap_lattice.specs.Levels.{Levels}
 use Rattle.sap_stim.specs.declared.fault.StimFault.{StimFault}
@@ -17,6 +17,7 @@ pub record OutputGrew (gained : List ℕ) (t n : Told) : Type 0 where
   pub files : n.files ≡ t.files
   pub output : n.written 1 ≡ t.written 1 ++ gained
   pub lines : n.written 2 ≡ t.written 2
+  pub others : (k : ℕ) → k ≢ 1 → n.written k ≡ t.written k
   pub room : n.room ≡ t.room
 
 -- all lines before the first that is refused are shown
@@ -28,6 +29,7 @@ pub record Printed (shows : Shows) (ls : Levels) (fs : List Field) (name : List 
   pub shown : shows (stimulus_of ls fs bytes).stream gained
   pub grew : OutputGrew gained t n
   pub uses : n.uses ≡ t.uses
+  pub blame : n.blame ≡ t.blame
 
 -- A call failed where so many bytes of a file were read, and this was written: the channel is still open that reads it, since no further call is made.
 pub record StaysOpen (why : FailedCall) (name : List ℕ) (text : Prints) (fault : FaultOf) (t : Told) (gained : List ℕ) (before after : ℕ → Use) : Type 0 where

@@ -1,11 +1,11 @@
-use Rattle.sap_lemmas.proofs.Common.{ℕ, ◌-◌, List, [], ◌++◌, take, sym, subst, IfSome}
+use Rattle.sap_lemmas.proofs.Common.{ℕ, ◌-◌, List, [], ◌++◌, take, sym, ap, ◌∙◌, subst, IfSome}
 use Rattle.sap_desk.specs.Desk.{rest_of}
 use Rattle.sap_meaning.specs.Cycle.{Tagged as Given}
 use Rattle.sap_stream.specs.Spans.{Span}
 use Rattle.sap_lines.specs.Fetched.{IsDecided, ReadsLeast}
 use Rattle.sap_lines.specs.Reader.{Reader}
 use Rattle.sap_lines.specs.declared.next.Next.TheVariants.{Line}
-use Rattle.sap_lines.proofs.Answered.{if_told, next_by, next_read, next_told, still_decided, still_tells}
+use Rattle.sap_lines.proofs.Answered.{if_told, next_by, next_read, next_told, still_decided, still_takes, still_tells, takes_read, takes_some}
 use Rattle.sap_lines.proofs.Reading.{held_read_so, read_count, reads_least, wanted_so}
 use Rattle.sap_lines.proofs.lines.Lines.next.Goals as goal
 
@@ -44,6 +44,23 @@ returns-in-Some-clause-by g c = λ small.
     (held_read_so c.args.channel c.self.inside.held c.fetch.new.held told (g.D.Desk.told c.fetch.new.desk) (g.D.Desk.given c.args.desk.now)
     (g.D.Desk.given c.fetch.new.desk) c.in-Ok.ensures.more)
     (λ _. c.in-Some.ensures.decided) (λ rest decided small. c.in-Some.ensures.tells c.self.inside.count rest) small
+
+pub returns-in-Some-clause-takes : goal.returns-in-Some-clause-takes
+returns-in-Some-clause-takes g c = λ _.
+    let told = g.D.Desk.told c.args.desk.now in
+    let read : ℕ = g.D.Desk.given c.fetch.new.desk c.args.channel - g.D.Desk.given c.args.desk.now c.args.channel in
+    takes_read c.args.lattice.now c.as_slice.result.now c.self.inside.held c.fetch.new.held c.take_ahead.new.held (line_so c.take_ahead.new.inputs c.in-Some.cycles)
+    c.args.self.now (c.as_slice.ensures.value ∙ ap (λ (r : Reader). r.fields) c.self.view_is) (ap (λ (r : Reader). r.pending) c.self.view_is)
+    c.in-Some.ensures.takes c.args.channel read told
+    (held_read_so c.args.channel c.self.inside.held c.fetch.new.held told (g.D.Desk.told c.fetch.new.desk) (g.D.Desk.given c.args.desk.now)
+    (g.D.Desk.given c.fetch.new.desk) c.in-Ok.ensures.more)
+
+pub returns-in-Some-clause-takes_some : goal.returns-in-Some-clause-takes_some
+returns-in-Some-clause-takes_some g c = λ _.
+    takes_some c.args.lattice.now c.as_slice.result.now c.self.inside.held c.fetch.new.held c.take_ahead.new.held (line_so c.take_ahead.new.inputs c.in-Some.cycles)
+    c.args.self.now (c.as_slice.ensures.value ∙ ap (λ (r : Reader). r.fields) c.self.view_is) (ap (λ (r : Reader). r.pending) c.self.view_is)
+    c.in-Some.ensures.takes c.args.channel (g.D.Desk.told c.args.desk.now) (g.D.Desk.told c.fetch.new.desk) (g.D.Desk.given c.args.desk.now)
+    (g.D.Desk.given c.fetch.new.desk) c.in-Ok.ensures.more c.fetch.ensures.behind.0 c.fetch.ensures.behind.1
 
 pub returns-in-Some-clause-least : goal.returns-in-Some-clause-least
 returns-in-Some-clause-least g c =
@@ -94,6 +111,28 @@ returns-in_default-clause-by g c = λ small.
     (still_tells c.args.lattice.now c.as_slice-in-Ok.result.now c.self.inside.count c.fetch.new.held c.take_ahead.new.held c.take_line-next.new.held
     _ c.take_line-next.result still c.take_line-next.ensures.tells)
     small
+
+pub returns-in_default-clause-takes : goal.returns-in_default-clause-takes
+returns-in_default-clause-takes g c = λ given.
+    let told = g.D.Desk.told c.args.desk.now in
+    let read : ℕ = g.D.Desk.given c.fetch.new.desk c.args.channel - g.D.Desk.given c.args.desk.now c.args.channel in
+    let line : Span = line_so c.take_line-next.new.inputs c.take_line-next.new.cycles in
+    takes_read c.args.lattice.now c.as_slice-in-Ok.result.now c.self.inside.held c.fetch.new.held c.take_line-next.new.held line
+    c.args.self.now (c.as_slice-in-Ok.ensures.value ∙ ap (λ (r : Reader). r.fields) c.self.view_is) (ap (λ (r : Reader). r.pending) c.self.view_is)
+    (still_takes c.args.lattice.now c.as_slice-in-Ok.result.now c.fetch.new.held c.take_ahead.new.held c.take_line-next.new.held line c.take_line-next.result
+    (c.take_ahead.ensures.stands c.in_default.is) c.take_line-next.ensures.takes given) c.args.channel read told
+    (held_read_so c.args.channel c.self.inside.held c.fetch.new.held told (g.D.Desk.told c.fetch.new.desk) (g.D.Desk.given c.args.desk.now)
+    (g.D.Desk.given c.fetch.new.desk) c.in-Ok.ensures.more)
+
+pub returns-in_default-clause-takes_some : goal.returns-in_default-clause-takes_some
+returns-in_default-clause-takes_some g c = λ given.
+    let line : Span = line_so c.take_line-next.new.inputs c.take_line-next.new.cycles in
+    takes_some c.args.lattice.now c.as_slice-in-Ok.result.now c.self.inside.held c.fetch.new.held c.take_line-next.new.held line
+    c.args.self.now (c.as_slice-in-Ok.ensures.value ∙ ap (λ (r : Reader). r.fields) c.self.view_is) (ap (λ (r : Reader). r.pending) c.self.view_is)
+    (still_takes c.args.lattice.now c.as_slice-in-Ok.result.now c.fetch.new.held c.take_ahead.new.held c.take_line-next.new.held line c.take_line-next.result
+    (c.take_ahead.ensures.stands c.in_default.is) c.take_line-next.ensures.takes given) c.args.channel (g.D.Desk.told c.args.desk.now)
+    (g.D.Desk.told c.fetch.new.desk) (g.D.Desk.given c.args.desk.now) (g.D.Desk.given c.fetch.new.desk) c.in-Ok.ensures.more
+    c.fetch.ensures.behind.0 c.fetch.ensures.behind.1
 
 pub returns-in-Err-clause-by : goal.returns-in-Err-clause-by
 returns-in-Err-clause-by g c = λ _. if_told (g.D.Desk.told c.args.desk.now) _ (λ t rest _. tt)
