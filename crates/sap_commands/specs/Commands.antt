@@ -71,7 +71,7 @@ asks_if (Some c) = asks c
 abbrev pub asks_for : List (List ℕ) → Asks
 asks_for words = asks_if (command_of words)
 
--- the words and files of a command ask for one text
+-- the words and files of a command ask for at most one text
 abbrev pub OneOutput : Type 0
 OneOutput = (c : Words) (t : Told) (text other : List ℕ) → IsOutput (asks c) t text → IsOutput (asks c) t other → text ≡ other
 

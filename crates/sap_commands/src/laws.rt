@@ -2,7 +2,7 @@
 
 ghost use Rattle.sap_commands.specs.Commands.{OneCause, OneOutput};
 
-/// The words and files of a command ask for one text on channel 1.
+/// The words and files of a command ask for at most one text on channel 1.
 pub fn one_output()
     ensures { OneOutput }
 {}

@@ -58,7 +58,7 @@ wrote_left name text F t n never w = record {
   gained = [];
   output = w.channels.output ∙ sym (append-nil (t.written 1));
   shows = (refl, refl);
-  blames = tt;
+  blames = w.blame;
   stands = w.uses;
   same = record { lines = w.channels.lines; lines_use = w.channels.lines_use; room = w.channels.room };
   cause = inr refl;

@@ -12,7 +12,7 @@ module _ (text : List ℕ) where
     gained = text;
     output = refl;
     shows = (refl, refl);
-    blames = tt;
+    blames = refl;
     stands = refl;
     same = record { lines = refl; lines_use = refl; room = refl };
     cause = inr refl;

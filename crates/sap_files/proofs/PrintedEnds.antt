@@ -49,9 +49,9 @@ module _ (shows : Shows) (ls : Levels) (fs : List Field) (name : List ℕ) where
   shows_end t gained None bytes there is shown = (bytes, there, ap end_of is, shown)
   shows_end t gained (Some fault) bytes there is shown = (bytes, there, ap end_of is, shown)
 
-  blames_end : (blame : List ℕ) (fault : Option StimFault) → Blames blame (end_of fault)
-  blames_end blame None = tt
-  blames_end blame (Some fault) = tt
+  blames_end : (before blame : List ℕ) (fault : Option StimFault) → blame ≡ before → Blames before blame (end_of fault)
+  blames_end before blame None is = is
+  blames_end before blame (Some fault) is = is
 
   stands_end : (t : Told) (fault : Option StimFault) (gained : List ℕ) (before after : ℕ → Use) → after ≡ before
       → Stands (prints name text faults_of) t (end_of fault) gained before after
@@ -69,7 +69,7 @@ module _ (shows : Shows) (ls : Levels) (fs : List Field) (name : List ℕ) where
     gained = p.gained;
     output = p.grew.output;
     shows = shows_end t p.gained fault p.bytes p.file p.is_fault p.shown;
-    blames = blames_end n.blame fault;
+    blames = blames_end t.blame n.blame fault p.blame;
     stands = stands_end t fault p.gained t.uses n.uses p.uses;
     same = record { lines = p.grew.lines; lines_use = ap (λ (u : ℕ → Use). u 2) p.uses; room = p.grew.room };
     cause = inr (p.bytes, p.file, ap end_of p.is_fault);

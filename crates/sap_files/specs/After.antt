@@ -9,12 +9,12 @@ use Rattle.sap_files.specs.Kinds.{Has}
 use Rattle.sap_files.specs.Asks.{Asks, file, by, gives, prints, writes, stops}
 use Rattle.sap_files.specs.Ending.{Ending, done, refused, failed, no_memory}
 
--- a failed call blames its file, or the output
-abbrev pub Blames : (blame : List ℕ) → Ending → Type 0
-Blames blame done = Unit {0}
-Blames blame (refused why) = Unit {0}
-Blames blame (failed name) = blame ≡ name
-Blames blame no_memory = Unit {0}
+-- a failed call blames its file, or the output; else whom the desk blamed before, it still blames
+abbrev pub Blames : (before blame : List ℕ) → Ending → Type 0
+Blames before blame done = blame ≡ before
+Blames before blame (refused why) = blame ≡ before
+Blames before blame (failed name) = blame ≡ name
+Blames before blame no_memory = blame ≡ before
 
 -- What stands after a failed call, which blames this: what is open, and what channel 1 gained. After one on a file that is read, or written, whole it is what was open
 -- before, and that call's channel too, if it has one, and nothing was gained. Where a stimulus is printed line by line, nothing was gained and nothing more is open if it

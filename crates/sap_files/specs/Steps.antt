@@ -133,7 +133,7 @@ pub record Left (a : Asks) (e : Ending) (rose : Type 0) (t n : Told) : Type 0 wh
   pub gained : List ℕ
   pub output : n.written 1 ≡ t.written 1 ++ gained
   pub shows : Output a t gained e
-  pub blames : Blames n.blame e
+  pub blames : Blames t.blame n.blame e
   pub stands : Stands a t e gained t.uses n.uses
   pub same : Same t n
   pub cause : IsFree e ⊎ Cause a t e
@@ -161,7 +161,7 @@ pub record NotRead (most : Option ℕ) (name : List ℕ) (e : Ending) (rose : Ty
   pub files : n.files ≡ t.files
   pub output : n.written 1 ≡ t.written 1
   pub same : Same t n
-  pub blames : Blames n.blame e
+  pub blames : Blames t.blame n.blame e
   pub opens : OpensUnread name e t.uses n.uses
   pub outside : rose → IsUnreadable most name t
 

@@ -1,11 +1,10 @@
 //! What a command reads: the bytes of files, and what they stand for.
 
 ghost use Rattle.std.specs.Prelude.{◌≡◌, ◌<◌, ◌^◌, All, IfOk, length};
-ghost use Rattle.sap_check.specs.Checked.{tree_in};
 ghost use Rattle.sap_stim.specs.Line.{IsSized};
 ghost use Rattle.sap_stim.specs.Stimulus.{stimulus_of};
 ghost use Rattle.sap_tree.specs.Designs.{design_of as tree_of};
-ghost use Rattle.sap_files.specs.Kinds.{lattice_file, design_file, assembly_file, design_text_file, module_file, stream_by, wave_file};
+ghost use Rattle.sap_files.specs.Kinds.{lattice_file, assembly_file, design_text_file, module_file, stream_by, wave_file};
 ghost use Rattle.sap_files.specs.Steps.{Gives, IsChecked, Read, ReadDesign, check_failure, lattice_failure, module_failure, read_failure, seen, wave_failure, whole};
 
 use crate::failure::Failure;

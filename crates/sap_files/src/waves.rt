@@ -1,6 +1,5 @@
 //! The commands `wave` and `unwave`.
 
-ghost use Rattle.std.specs.Prelude.{◌≡◌};
 ghost use Rattle.sap_sim.specs.Numbers.{numbers_of};
 ghost use Rattle.sap_stim.specs.Fits.{StreamFits};
 ghost use Rattle.sap_wave_run.specs.Dumped.{IsDumpOn};

@@ -78,7 +78,7 @@ starved_left a why F t n takes l = record {
   gained = l.gained;
   output = l.output;
   shows = none_shown a t why l.gained takes l.shows;
-  blames = tt;
+  blames = l.blames;
   stands = l.stands;
   same = l.same;
   cause = inl tt;
@@ -207,8 +207,9 @@ module _ (words : List (List ℕ)) (e : Ending) where
     gained = l.gained;
     output = w.output ∙ l.output;
     shows = l.shows;
-    blames = subst (λ (blame : List ℕ). Blames blame e) (sym w.blame) l.blames;
+    blames = subst (λ (blame : List ℕ). Blames t.blame blame e) (sym w.blame) l.blames;
     stands = subst (λ (uses : ℕ → Use). Stands (asks_for words) t e l.gained t.uses uses) (sym w.uses) l.stands;
+    room = w.room ∙ l.same.room;
     cause = l.cause;
   }
 

@@ -26,12 +26,7 @@ tells ls net text is = record {
   tagged = is.tagged;
   is_module = is.is_module;
   no_other = λ other other_is. one_module text other is.tagged other_is is.is_module;
-  form = is.taint.form;
-  takes = is.taint.takes;
-  one_run = is.taint.one_run;
-  shows = is.taint.shows;
-  codes = is.taint.codes;
-  agree = is.taint.agree;
+  taint = is.taint;
 }
 
 module _ (lattice verilog out : List ℕ) (answer : ℕ) (t n : Told) where

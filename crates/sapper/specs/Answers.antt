@@ -17,8 +17,10 @@ pub record Answers (words : List (List ℕ)) (lost lost_now answer : ℕ) (t n :
   pub gained : List ℕ
   pub output : n.written 1 ≡ t.written 1 ++ gained
   pub shows : Output (asks_for words) t gained ending
-  pub blames : Blames n.blame ending
+  pub blames : Blames t.blame n.blame ending
   pub stands : Stands (asks_for words) t ending gained t.uses n.uses
+  -- a channel takes as much as before
+  pub room : n.room ≡ t.room
   -- but for a failed call and want of memory the words and files have the ending's cause
   pub cause : IsFree ending ⊎ Cause (asks_for words) t ending
 

@@ -22,9 +22,9 @@ pub record Tells (line : List ℕ) (before after : Moment) : Type 0 where
   pub lost : LostAtMostOne before.lost after.lost
   pub sure : before.sure → after.sure
 
--- its line takes memory: each refusal's but that of a stimulus, behind whose lines none is taken
+-- its line takes memory: each refusal's but that of a stimulus, behind whose lines none is taken, and that of words that are no command
 abbrev pub TakesMemory : Reason → Type 0
-TakesMemory no_command = Unit {0}
+TakesMemory no_command = ⊥
 TakesMemory (lattice_refused fault) = Unit {0}
 TakesMemory (design_refused fault) = Unit {0}
 TakesMemory (part_refused part fault) = Unit {0}

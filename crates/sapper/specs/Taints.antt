@@ -3,17 +3,15 @@
 use Rattle.std.specs.Prelude.{◌≡◌, ◌≢◌, ℕ, List, Some}
 use Rattle.sap_desk.specs.Desk.{Told}
 use Rattle.sap_desk.specs.Whole.{Gained}
-use Rattle.sap_lattice.specs.Codes.{width_of}
 use Rattle.sap_lattice.specs.Levels.{Levels, order_of}
 use Rattle.sap_net.specs.Net.{Net}
 use Rattle.sap_vtext.specs.Modules.{IsModule}
-use Rattle.sap_taint.specs.Carries.{TakesTags, OneTaggedRun, ShowsTaint, TagsStayCodes, RunsWithTagsAgree}
-use Rattle.sap_taint.specs.TaggedForm.{HasTaggedForm}
 use Rattle.sap_taint.specs.TagNames.{IsClash, HasRoomForTags}
 use Rattle.sap_taint_pass.specs.declared.fault.TaintFault.TheVariants.{Clash}
 use Rattle.sap_words.specs.Words.{command_of, taint}
 use Rattle.sap_files.specs.Ending.{line_of, refused, taint_refused}
 use Rattle.sap_files.specs.Kinds.{Has, lattice_file, module_file}
+use Rattle.sap_files.specs.Tainting.{HasTaintOf}
 
 -- A text is the one module of a netlist with tags.
 pub record TellsTaint (ls : Levels) (net : Net) (text : List ℕ) : Type 0 where
@@ -21,17 +19,8 @@ pub record TellsTaint (ls : Levels) (net : Net) (text : List ℕ) : Type 0 where
   -- by the grammar of modules the text is this module, and no other
   pub is_module : IsModule text tagged
   pub no_other : (other : Net) → IsModule text other → other ≡ tagged
-  -- it has the names and ports of the given one, each with its tag's directly behind it, tags as wide as codes of levels
-  pub form : HasTaggedForm (width_of (order_of ls)) net tagged
-  -- clocked on what the given one takes, with any tags, it has one run
-  pub takes : TakesTags (width_of (order_of ls)) net tagged
-  pub one_run : OneTaggedRun (width_of (order_of ls)) net tagged
-  -- in which names have the numbers of the given module's run, and tags its taint
-  pub shows : ShowsTaint net tagged
-  -- where the tags of inputs are codes of levels, all are
-  pub codes : TagsStayCodes (order_of ls) net tagged
-  -- on streams that agree at or below a level its runs agree there in every cycle, in levels and in plain numbers
-  pub agree : RunsWithTagsAgree (order_of ls) net tagged
+  -- it is the given one with tags, as wide as codes of levels: it has one run on what that takes, with any tags, and its tags there are the taint of that run
+  pub taint : HasTaintOf (order_of ls) net tagged
 
 -- of the answer of a `taint` and the desk before and after it
 pub record TaintsExactly (lattice verilog out : List ℕ) (lost lost_now answer : ℕ) (t n : Told) : Type 0 where
