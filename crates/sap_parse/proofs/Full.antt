@@ -1,13 +1,15 @@
 -- Rows that are never empty: those of each symbol that may not be.
-use Rattle.sap_lemmas.proofs.Common.{◌≡◌, ◌≢◌, ℕ, List, [], ◌∷◌, ◌++◌, Bool, true, false, cond, refl, ◌==◌}
+use Rattle.sap_lemmas.proofs.Common.{◌≡◌, ◌≢◌, ℕ, List, [], ◌∷◌, ◌++◌, Bool, true, false, cond, refl, bytes_eq}
 use Rattle.sap_parse.specs.Table as s
 use Rattle.sap_parse.specs.Table.{Symbol, Row, if_same, may_be_empty, next, tails}
 use Rattle.sap_parse.specs.declared.role.Role.TheVariants as r
 use Rattle.sap_parse.specs.declared.role.Role.{Role}
+use Rattle.sap_lex.specs.Spelling.{sign_text}
 use Rattle.sap_lex.specs.declared.token.Kind.TheVariants as k
 use Rattle.sap_lex.specs.declared.token.Kind.{Kind}
 use Rattle.sap_lex.specs.declared.token.Sign.TheVariants as j
 use Rattle.sap_lex.specs.declared.token.Sign.{Sign as SignOf}
+use Rattle.sap_tree.specs.Words.{word_text}
 use Rattle.sap_tree.specs.declared.word.Word.TheVariants as w
 use Rattle.sap_tree.specs.declared.word.Word.{Word as WordOf}
 use Rattle.sap_walk.specs.Rows.{push, optional, ◌or◌, first_then, firsts}
@@ -45,11 +47,11 @@ same_full role true e = absurd (cc)
 same_full role false e = absurd (cc)
 
 sign_full : (role : Role) (x : SignOf) (i : Kind) → IsFull (s.sign_next role x i)
-sign_full role x (k.Sign y) = same_full role (s.sign_number y == s.sign_number x)
+sign_full role x (k.Sign y) = same_full role (bytes_eq (sign_text y) (sign_text x))
 sign_full role x _ = λ e. absurd (cc)
 
 word_full : (role : Role) (x : WordOf) (i : Kind) → IsFull (s.word_next role x i)
-word_full role x (k.Word y) = same_full role (s.word_number y == s.word_number x)
+word_full role x (k.Word y) = same_full role (bytes_eq (word_text y) (word_text x))
 word_full role x _ = λ e. absurd (cc)
 
 name_full : (role : Role) (i : Kind) → IsFull (s.name_next role i)

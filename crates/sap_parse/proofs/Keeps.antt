@@ -1,12 +1,13 @@
 -- A token that a symbol takes, with what is then to come, stands for that symbol.
-use Rattle.sap_lemmas.proofs.Common.{◌≡◌, ◌≤◌, ◌+◌, ◌-◌, ℕ, zero, suc, List, [], ◌∷◌, ◌++◌, Option, Some, None, Bool, true, false, cond, refl, sym, ap, subst, ◌∙◌, arith, eqb, eqb-true}
+use Rattle.sap_lemmas.proofs.Common.{◌≡◌, ◌≤◌, ◌+◌, ◌-◌, ℕ, zero, suc, List, [], ◌∷◌, ◌++◌, Option, Some, None, Bool, true, false, cond, refl, sym, ap, subst, ◌∙◌, arith, eqb, eqb-true, bytes_eq}
 use Rattle.sap_parse.specs.Grammar as g
 use Rattle.sap_parse.specs.Grammar.{sign_of, unary_sign_of}
 use Rattle.sap_parse.specs.Limits.{Counts, tally, breach}
 use Rattle.sap_parse.specs.Reading.{leniently}
 use Rattle.sap_parse.specs.Stages.{Stage, IsToken, IsSign, IsWord, IsName, IsNumber, IsSized, spot_here, here as place_here}
 use Rattle.sap_parse.specs.Table as s
-use Rattle.sap_parse.specs.Table.{Symbol, Row, if_same, next, operator_of, same_level, sign_number, word_number, tails, tightest, index_symbols, expr_symbols}
+use Rattle.sap_parse.specs.Table.{Symbol, Row, if_same, next, operator_of, same_level, tails, tightest, index_symbols, expr_symbols}
+use Rattle.sap_lex.specs.Spelling.{sign_text}
 use Rattle.sap_lex.specs.declared.limit.Limit.{Limit}
 use Rattle.sap_parse.specs.declared.role.Role.TheVariants as r
 use Rattle.sap_parse.specs.declared.role.Role.{Role}
@@ -16,7 +17,7 @@ use Rattle.sap_lex.specs.declared.token.Sign.TheVariants as j
 use Rattle.sap_lex.specs.declared.token.Sign.{Sign as SignOf}
 use Rattle.sap_lex.specs.declared.token.Token.{Token}
 use Rattle.sap_tree.specs.declared.word.Word.TheVariants as w
-use Rattle.sap_tree.specs.Prelude.{precedence, unary_precedence, first_of}
+use Rattle.sap_tree.specs.Prelude.{precedence, unary_precedence, first_of, word_text}
 use Rattle.sap_tree.specs.declared.word.Word.{Word as WordOf}
 use Rattle.sap_tree.specs.declared.syntax.BinaryOperator.{BinaryOperator}
 use Rattle.sap_tree.specs.declared.syntax.UnaryOperator.{UnaryOperator}
@@ -25,30 +26,12 @@ use Rattle.sap_tree.specs.declared.syntax.BinaryOperator.TheVariants as b
 use Rattle.sap_tree.specs.declared.syntax.UnaryOperator.TheVariants as u
 use Rattle.sap_parse.proofs.ExprLaws.{unary_full}
 use Rattle.sap_parse.proofs.Laws.{sign_full}
-use Rattle.sap_parse.proofs.Single.{sign_back, sign_by}
+use Rattle.sap_parse.proofs.Single.{sign_same, word_same}
 use Rattle.sap_parse.proofs.Spells.{W, Lang, Langs, last, nothing, operators, expression}
 use Rattle.sap_walk.specs.Limits.{Past, passed}
 use Rattle.sap_walk.specs.Rows.{push, optional, ◌or◌, first_then, firsts}
 use Rattle.sap_walk.specs.Walk.{begins, empty_here, cannot_stand}
 use Rattle.sap_walk.proofs.Spelling.{split}
-
-sign_same : (i x : SignOf) → eqb (sign_number i) (sign_number x) ≡ true → i ≡ x
-sign_same i x e = sym (sign_back i) ∙ ap sign_by (eqb-true (sign_number i) (sign_number x) e) ∙ sign_back x
-
-word_by : ℕ → WordOf
-word_by n =
-    cond (eqb n 0) w.Input (cond (eqb n 1) w.Reg (cond (eqb n 2) w.Mem (cond (eqb n 3) w.State (cond (eqb n 4) w.Dynamic (cond (eqb n 5) w.Enforced
-    (cond (eqb n 6) w.Under (cond (eqb n 7) w.If (cond (eqb n 8) w.Else (cond (eqb n 9) w.Goto (cond (eqb n 10) w.Fall (cond (eqb n 11) w.SetTag
-    (cond (eqb n 12) w.Otherwise (cond (eqb n 13) w.Tag (cond (eqb n 14) w.Level (cond (eqb n 15) w.Join (cond (eqb n 16) w.Zext (cond (eqb n 17) w.Then
-    (cond (eqb n 18) w.Case (cond (eqb n 19) w.Sapper w.Two)))))))))))))))))))
-
-word_back : (x : WordOf) → word_by (word_number x) ≡ x
-unfolding word_by
-word_back w.Input = refl
-word_back _ = refl
-
-word_same : (i x : WordOf) → eqb (word_number i) (word_number x) ≡ true → i ≡ x
-word_same i x e = sym (word_back i) ∙ ap word_by (eqb-true (word_number i) (word_number x) e) ∙ word_back x
 
 operator_sign : (x : SignOf) (o : BinaryOperator) → operator_of x ≡ Some o → x ≡ sign_of o
 operator_sign j.Bar o e = cc
@@ -108,13 +91,13 @@ module _ (token : Token) (ts : List Token) (past : Past Counts Limit) where
   pub keeps_sign : (role : Role) (x : SignOf) → Keeps (s.sign_next role x token.kind) (λ q. IsSign here role x q)
   keeps_sign role x = by_kind token.kind refl where
     by_kind : (i : Kind) → token.kind ≡ i → Keeps (s.sign_next role x i) (λ q. IsSign here role x q)
-    by_kind (k.Sign i) e = keeps_same role (eqb (sign_number i) (sign_number x)) (λ q. IsSign here role x q) (λ h. stands role (k.Sign x) (e ∙ ap k.Sign (sign_same i x h)))
+    by_kind (k.Sign i) e = keeps_same role (bytes_eq (sign_text i) (sign_text x)) (λ q. IsSign here role x q) (λ h. stands role (k.Sign x) (e ∙ ap k.Sign (sign_same i x h)))
     by_kind _ e = λ role σ f. absurd (cc)
 
   pub keeps_word : (role : Role) (x : WordOf) → Keeps (s.word_next role x token.kind) (λ q. IsWord here role x q)
   keeps_word role x = by_kind token.kind refl where
     by_kind : (i : Kind) → token.kind ≡ i → Keeps (s.word_next role x i) (λ q. IsWord here role x q)
-    by_kind (k.Word i) e = keeps_same role (eqb (word_number i) (word_number x)) (λ q. IsWord here role x q) (λ h. stands role (k.Word x) (e ∙ ap k.Word (word_same i x h)))
+    by_kind (k.Word i) e = keeps_same role (bytes_eq (word_text i) (word_text x)) (λ q. IsWord here role x q) (λ h. stands role (k.Word x) (e ∙ ap k.Word (word_same i x h)))
     by_kind _ e = λ role σ f. absurd (cc)
 
   pub keeps_name : (role : Role) → Keeps (s.name_next role token.kind) (λ q. (n : List ℕ) × IsName here role n q)

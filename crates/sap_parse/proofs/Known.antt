@@ -1,19 +1,21 @@
 -- What the walk reads where the first token is known, or where it is known that a symbol is read.
-use Rattle.sap_lemmas.proofs.Common.{◌≡◌, ◌≢◌, ℕ, List, [], ◌∷◌, ◌++◌, Option, Some, None, Ok, Err, true, false, refl, sym, ap, subst, ◌∙◌, test_of_same}
+use Rattle.sap_lemmas.proofs.Common.{◌≡◌, ◌≢◌, ℕ, List, [], ◌∷◌, ◌++◌, Option, Some, None, Ok, Err, true, false, refl, sym, ap, subst, ◌∙◌, bytes_eq_same}
 use Rattle.sap_parse.specs.Limits.{tally, breach}
 use Rattle.sap_parse.specs.Reading.{Outcome, leniently, read_by, steps_by, table}
 use Rattle.sap_parse.specs.Stages.{Stage, IsToken}
 use Rattle.sap_parse.specs.Table as s
 use Rattle.sap_parse.specs.Table.{Symbol, Row, may_be_empty, next}
 use Rattle.sap_parse.specs.declared.role.Role.{Role}
+use Rattle.sap_lex.specs.Spelling.{sign_text}
 use Rattle.sap_lex.specs.declared.token.Kind.TheVariants as k
 use Rattle.sap_lex.specs.declared.token.Kind.{Kind}
 use Rattle.sap_lex.specs.declared.token.Sign.{Sign as SignOf}
 use Rattle.sap_lex.specs.declared.token.Token.{Token}
+use Rattle.sap_tree.specs.Words.{word_text}
 use Rattle.sap_tree.specs.declared.word.Word.{Word as WordOf}
 use Rattle.sap_parse.proofs.Laws as laws
 use Rattle.sap_walk.specs.Limits.{passed}
-use Rattle.sap_walk.specs.Rows.{◌or◌, firsts}
+use Rattle.sap_walk.specs.Rows.{firsts}
 use Rattle.sap_walk.specs.Walk.{begins, empty_here, cannot_stand, at_token, ◌>>=◌}
 use Rattle.sap_walk.proofs.Rows.{all_empty}
 use Rattle.sap_walk.proofs.Walking.{read_take}
@@ -89,10 +91,10 @@ token_reads x {p} {q} {role} {kind} h row =
     ∙ ap (λ past. Ok (record { past = past; left = q.left })) (sym h.past)
 
 pub sign_reads : {p q : Stage} {role : Role} {sign : SignOf} → IsToken p role (k.Sign sign) q → R (s.sign role sign) p ≡ Ok q
-sign_reads {role = role} {sign = sign} h = token_reads (s.sign role sign) h (ap (s.if_same role) (test_of_same (s.sign_number sign)))
+sign_reads {role = role} {sign = sign} h = token_reads (s.sign role sign) h (ap (s.if_same role) (bytes_eq_same (sign_text sign)))
 
 pub word_reads : {p q : Stage} {role : Role} {word : WordOf} → IsToken p role (k.Word word) q → R (s.word role word) p ≡ Ok q
-word_reads {role = role} {word = word} h = token_reads (s.word role word) h (ap (s.if_same role) (test_of_same (s.word_number word)))
+word_reads {role = role} {word = word} h = token_reads (s.word role word) h (ap (s.if_same role) (bytes_eq_same (word_text word)))
 
 pub name_reads : {p q : Stage} {role : Role} {name : List ℕ} → IsToken p role (k.Name name) q → R (s.any_name role) p ≡ Ok q
 name_reads {role = role} h = token_reads (s.any_name role) h refl

@@ -1,13 +1,14 @@
 -- What the walk does with a symbol that is a single token.
-use Rattle.sap_lemmas.proofs.Common.{◌≡◌, ◌≢◌, ℕ, List, [], ◌∷◌, Option, Some, None, Result, Ok, Err, Bool, true, false, refl, sym, ap, ◌∙◌, arith, nat_tests, ◌==◌, get_or, test_of_same, IfErr, IfOk}
+use Rattle.sap_lemmas.proofs.Common.{◌≡◌, ◌≢◌, ℕ, List, [], ◌∷◌, Option, Some, None, Result, Ok, Err, Bool, true, false, refl, sym, ap, ◌∙◌, ◌++◌, bytes_eq, same_Some, bytes_eq_same, equal_of_bytes_eq, IfErr, IfOk}
 use Rattle.sap_parse.specs.Limits.{breach, tally}
 use Rattle.sap_parse.specs.Reading.{Breaks, Goes, IsBroken, Passes, ahead, ahead_of, front_name, front_number, front_sized, name_in, number_in, read_by, reads, sized_in, strictly, table}
 use Rattle.sap_parse.specs.Stages.{Stage, IsToken}
-use Rattle.sap_parse.specs.Table.{Symbol, sign, word, any_name, number, sized, next, may_be_empty, sign_number, word_number, if_same}
+use Rattle.sap_parse.specs.Table.{Symbol, sign, word, any_name, number, sized, next, may_be_empty, if_same}
 use Rattle.sap_parse.specs.declared.cursor.Ahead.TheVariants as a
 use Rattle.sap_parse.specs.declared.cursor.Ahead.{Ahead}
 use Rattle.sap_parse.specs.declared.cursor.Fault.TheVariants as f
 use Rattle.sap_parse.specs.declared.cursor.Fault.{Fault}
+use Rattle.sap_lex.specs.Spelling.{sign_of, sign_text, word_among}
 use Rattle.sap_lex.specs.declared.limit.Limit.{Limit}
 use Rattle.sap_parse.specs.declared.role.Role.{Role}
 use Rattle.sap_lex.specs.declared.token.Kind.TheVariants as k
@@ -15,6 +16,7 @@ use Rattle.sap_lex.specs.declared.token.Kind.{Kind}
 use Rattle.sap_lex.specs.declared.token.Sign.TheVariants as s
 use Rattle.sap_lex.specs.declared.token.Sign.{Sign as SignOf}
 use Rattle.sap_lex.specs.declared.token.Token.{Token}
+use Rattle.sap_tree.specs.Words.{first_words, later_words, word_text}
 use Rattle.sap_tree.specs.declared.word.Word.TheVariants as w
 use Rattle.sap_tree.specs.declared.word.Word.{Word as WordOf}
 use Rattle.sap_walk.specs.Limits.{passed, unless_broken}
@@ -46,31 +48,32 @@ refused s p full h = by_left p.left refl where
       ap (λ l. reads s (record { past = p.past; left = l })) e ∙ read_stop (table strictly) s t ts p.past (h t ts e)
       ∙ ap (λ l. Err (at_token (record { past = p.past; left = l }))) (sym e)
 
--- what differs has different numbers, where the number gives it back
-apart : {X : Type 0} (code : X → ℕ) (by : ℕ → X) → ((x : X) → by (code x) ≡ x) → (x y : X) → x ≢ y → (code x == code y) ≡ false
-apart code by back x y ne = by_test (code x == code y) refl where
-  by_test : (b : Bool) → (code x == code y) ≡ b → b ≡ false
-  by_test true e = (let same : code x ≡ code y = grind (arith, nat_tests) in absurd (ne (sym (back x) ∙ ap by same ∙ back y)))
-  by_test false e = refl
+-- how a sign and a word are spelled gives them back
 
-pub sign_by : ℕ → SignOf
-sign_by n = get_or (s.Becomes ∷ s.Equal ∷ s.NotEqual ∷ s.LessOrEqual ∷ s.ShiftLeft ∷ s.ShiftRight ∷ s.OpenParen ∷ s.CloseParen ∷ s.OpenBrace
-    ∷ s.CloseBrace ∷ s.OpenBracket ∷ s.CloseBracket ∷ s.Colon ∷ s.Semicolon ∷ s.Comma ∷ s.Question ∷ s.Is ∷ s.Less ∷ s.Plus ∷ s.Minus
-    ∷ s.Star ∷ s.Ampersand ∷ s.Bar ∷ s.Caret ∷ []) n s.Tilde
-
-pub sign_back : (x : SignOf) → sign_by (sign_number x) ≡ x
-unfolding sign_by
+sign_back : (x : SignOf) → sign_of (sign_text x) ≡ Some x
 sign_back s.Becomes = refl
 sign_back _ = refl
 
-pub word_by : ℕ → WordOf
-word_by n = get_or (w.Input ∷ w.Reg ∷ w.Mem ∷ w.State ∷ w.Dynamic ∷ w.Enforced ∷ w.Under ∷ w.If ∷ w.Else ∷ w.Goto ∷ w.Fall ∷ w.SetTag
-    ∷ w.Otherwise ∷ w.Tag ∷ w.Level ∷ w.Join ∷ w.Zext ∷ w.Then ∷ w.Case ∷ w.Sapper ∷ []) n w.Two
+-- of all words, the one that is spelled so
+abbrev word_spelled : List ℕ → Option WordOf
+word_spelled text = word_among (first_words ++ later_words ++ w.Sapper ∷ w.Two ∷ []) text
 
-pub word_back : (x : WordOf) → word_by (word_number x) ≡ x
-unfolding word_by
+word_back : (x : WordOf) → word_spelled (word_text x) ≡ Some x
 word_back w.Input = refl
 word_back _ = refl
+
+pub sign_same : (x y : SignOf) → bytes_eq (sign_text x) (sign_text y) ≡ true → x ≡ y
+sign_same x y e = same_Some x y (sym (sign_back x) ∙ ap sign_of (equal_of_bytes_eq (sign_text x) (sign_text y) e) ∙ sign_back y)
+
+pub word_same : (x y : WordOf) → bytes_eq (word_text x) (word_text y) ≡ true → x ≡ y
+word_same x y e = same_Some x y (sym (word_back x) ∙ ap word_spelled (equal_of_bytes_eq (word_text x) (word_text y) e) ∙ word_back y)
+
+-- what differs is spelled in different ways, where what is spelled alike is the same
+apart : {X : Type 0} (text : X → List ℕ) → ((x y : X) → bytes_eq (text x) (text y) ≡ true → x ≡ y) → (x y : X) → x ≢ y → bytes_eq (text x) (text y) ≡ false
+apart text same x y ne = by_test (bytes_eq (text x) (text y)) refl where
+  by_test : (b : Bool) → bytes_eq (text x) (text y) ≡ b → b ≡ false
+  by_test true e = absurd (ne (same x y e))
+  by_test false e = refl
 
 -- what stands at the front
 
@@ -116,10 +119,10 @@ token_is {t = t} passes e = record { token = t; left = passes.left; past = passe
 -- signs
 
 pub next_sign : (role : Role) (j : SignOf) (i : Kind) → i ≡ k.Sign j → next (sign role j) i ≡ begins role []
-next_sign role j i e = ap (next (sign role j)) e ∙ ap (if_same role) (test_of_same (sign_number j))
+next_sign role j i e = ap (next (sign role j)) e ∙ ap (if_same role) (bytes_eq_same (sign_text j))
 
 pub next_not_sign : (role : Role) (j : SignOf) (i : Kind) → ahead_of i ≢ a.Sign j → next (sign role j) i ≡ cannot_stand
-next_not_sign role j (k.Sign i) ne = ap (if_same role) (apart sign_number sign_by sign_back i j (λ e. ne (ap a.Sign e)))
+next_not_sign role j (k.Sign i) ne = ap (if_same role) (apart sign_text sign_same i j (λ e. ne (ap a.Sign e)))
 next_not_sign role j _ ne = refl
 
 pub sign_is : (p q : Stage) (role : Role) (j : SignOf) (t : Token) → ahead p.left ≡ a.Sign j → Passes p role t q → IsToken p role (k.Sign j) q
@@ -143,10 +146,10 @@ pub ruleset signs = (sign_is, sign_read, sign_broken, sign_refused)
 -- words
 
 pub next_word : (role : Role) (j : WordOf) (i : Kind) → i ≡ k.Word j → next (word role j) i ≡ begins role []
-next_word role j i e = ap (next (word role j)) e ∙ ap (if_same role) (test_of_same (word_number j))
+next_word role j i e = ap (next (word role j)) e ∙ ap (if_same role) (bytes_eq_same (word_text j))
 
 pub next_not_word : (role : Role) (j : WordOf) (i : Kind) → ahead_of i ≢ a.Word j → next (word role j) i ≡ cannot_stand
-next_not_word role j (k.Word i) ne = ap (if_same role) (apart word_number word_by word_back i j (λ e. ne (ap a.Word e)))
+next_not_word role j (k.Word i) ne = ap (if_same role) (apart word_text word_same i j (λ e. ne (ap a.Word e)))
 next_not_word role j _ ne = refl
 
 pub word_is : (p q : Stage) (role : Role) (j : WordOf) (t : Token) → ahead p.left ≡ a.Word j → Passes p role t q → IsToken p role (k.Word j) q

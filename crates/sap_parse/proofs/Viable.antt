@@ -1,10 +1,11 @@
 -- Each symbol can be spelled, and tokens that the walk takes go on as the grammar has it.
-use Rattle.sap_lemmas.proofs.Common.{◌≡◌, ◌+◌, ◌-◌, ℕ, zero, suc, List, [], ◌∷◌, ◌++◌, Option, Result, Ok, Bool, true, false, refl, sym, ap, subst, append_assoc, and_from, and_parts, test_of_same, ◌&&◌}
+use Rattle.sap_lemmas.proofs.Common.{◌≡◌, ◌-◌, ℕ, zero, suc, List, [], ◌∷◌, ◌++◌, Option, Result, Ok, Bool, true, false, refl, sym, ap, subst, append_assoc, and_from, and_parts, bytes_eq_same, ◌&&◌}
 use Rattle.sap_parse.specs.Fault.{SpellsSome}
 use Rattle.sap_parse.specs.Limits.{Counts, tally, breach}
 use Rattle.sap_parse.specs.Stages.{at_start}
 use Rattle.sap_parse.specs.Table as s
 use Rattle.sap_parse.specs.Table.{Symbol, Row, grammar, next, tails, tightest}
+use Rattle.sap_lex.specs.Spelling.{sign_text}
 use Rattle.sap_lex.specs.declared.limit.Limit.{Limit}
 use Rattle.sap_parse.specs.declared.role.Role.TheVariants as r
 use Rattle.sap_parse.specs.declared.role.Role.{Role}
@@ -12,6 +13,7 @@ use Rattle.sap_lex.specs.declared.token.Kind.TheVariants as k
 use Rattle.sap_lex.specs.declared.token.Kind.{Kind}
 use Rattle.sap_lex.specs.declared.token.Sign.TheVariants as j
 use Rattle.sap_lex.specs.declared.token.Token.{Token}
+use Rattle.sap_tree.specs.Words.{word_text}
 use Rattle.sap_tree.specs.declared.word.Word.TheVariants as w
 use Rattle.sap_tree.specs.Precedence.{unary_precedence}
 use Rattle.sap_parse.proofs.Full.{full}
@@ -112,8 +114,8 @@ alone : (x : Symbol) (i : Kind) → is_begun s.may_be_empty (next x i) ≡ true 
 alone = by_token s.may_be_empty empty
 
 small : (x : Symbol) → is_small x ≡ true → Shortest x
-small (s.sign role x) h = by_row s.may_be_empty empty (s.sign role x) (k.Sign x) role [] (ap (s.if_same role) (test_of_same (s.sign_number x))) refl
-small (s.word role x) h = by_row s.may_be_empty empty (s.word role x) (k.Word x) role [] (ap (s.if_same role) (test_of_same (s.word_number x))) refl
+small (s.sign role x) h = by_row s.may_be_empty empty (s.sign role x) (k.Sign x) role [] (ap (s.if_same role) (bytes_eq_same (sign_text x))) refl
+small (s.word role x) h = by_row s.may_be_empty empty (s.word role x) (k.Word x) role [] (ap (s.if_same role) (bytes_eq_same (word_text x))) refl
 small (s.any_name role) h = alone (s.any_name role) (k.Name []) refl
 small (s.number role) h = alone (s.number role) (k.Number 0) refl
 small s.expr h = alone s.expr (k.Number 0) refl

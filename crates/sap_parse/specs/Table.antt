@@ -1,6 +1,8 @@
 -- The design grammar as the walk reads it: what each token does with each symbol.
 use Rattle.std.specs.Prelude.{ℕ, zero, suc, ◌+◌, ◌-◌, ◌==◌, if◌then◌else◌, Bool, true, false, List, [], ◌∷◌, ◌++◌, Option, Some, None}
+use Rattle.std.specs.Str.{bytes_eq}
 use Rattle.sap_parse.specs.Limits.{Counts, tally, breach}
+use Rattle.sap_lex.specs.Spelling.{sign_text}
 use Rattle.sap_lex.specs.declared.limit.Limit.{Limit}
 use Rattle.sap_parse.specs.declared.role.Role.TheVariants as r
 use Rattle.sap_parse.specs.declared.role.Role.{Role}
@@ -12,6 +14,7 @@ use Rattle.sap_lex.specs.declared.token.Token.{Token}
 use Rattle.sap_tree.specs.declared.word.Word.TheVariants as w
 use Rattle.sap_tree.specs.declared.word.Word.{Word as WordOf}
 use Rattle.sap_tree.specs.Precedence.{precedence, unary_precedence}
+use Rattle.sap_tree.specs.Words.{word_text}
 use Rattle.sap_tree.specs.declared.syntax.BinaryOperator.TheVariants as b
 use Rattle.sap_tree.specs.declared.syntax.BinaryOperator.{BinaryOperator}
 use Rattle.sap_walk.specs.Limits.{Limited}
@@ -41,68 +44,18 @@ pub data Symbol : Type 0 where
 abbrev pub Row : Type 0
 Row = Next Symbol Role
 
--- single tokens
-
-abbrev pub sign_number : SignOf → ℕ
-sign_number s.Becomes = 0
-sign_number s.Equal = 1
-sign_number s.NotEqual = 2
-sign_number s.LessOrEqual = 3
-sign_number s.ShiftLeft = 4
-sign_number s.ShiftRight = 5
-sign_number s.OpenParen = 6
-sign_number s.CloseParen = 7
-sign_number s.OpenBrace = 8
-sign_number s.CloseBrace = 9
-sign_number s.OpenBracket = 10
-sign_number s.CloseBracket = 11
-sign_number s.Colon = 12
-sign_number s.Semicolon = 13
-sign_number s.Comma = 14
-sign_number s.Question = 15
-sign_number s.Is = 16
-sign_number s.Less = 17
-sign_number s.Plus = 18
-sign_number s.Minus = 19
-sign_number s.Star = 20
-sign_number s.Ampersand = 21
-sign_number s.Bar = 22
-sign_number s.Caret = 23
-sign_number s.Tilde = 24
-
-abbrev pub word_number : WordOf → ℕ
-word_number w.Input = 0
-word_number w.Reg = 1
-word_number w.Mem = 2
-word_number w.State = 3
-word_number w.Dynamic = 4
-word_number w.Enforced = 5
-word_number w.Under = 6
-word_number w.If = 7
-word_number w.Else = 8
-word_number w.Goto = 9
-word_number w.Fall = 10
-word_number w.SetTag = 11
-word_number w.Otherwise = 12
-word_number w.Tag = 13
-word_number w.Level = 14
-word_number w.Join = 15
-word_number w.Zext = 16
-word_number w.Then = 17
-word_number w.Case = 18
-word_number w.Sapper = 19
-word_number w.Two = 20
+-- single tokens: a sign and a word by how they are spelled
 
 abbrev pub if_same : Role → Bool → Row
 if_same role true = begins role []
 if_same role false = cannot_stand
 
 abbrev pub sign_next : Role → SignOf → Kind → Row
-sign_next role j (k.Sign i) = if_same role (sign_number i == sign_number j)
+sign_next role j (k.Sign i) = if_same role (bytes_eq (sign_text i) (sign_text j))
 sign_next role j i = cannot_stand
 
 abbrev pub word_next : Role → WordOf → Kind → Row
-word_next role j (k.Word i) = if_same role (word_number i == word_number j)
+word_next role j (k.Word i) = if_same role (bytes_eq (word_text i) (word_text j))
 word_next role j i = cannot_stand
 
 abbrev pub name_next : Role → Kind → Row

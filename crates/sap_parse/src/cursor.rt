@@ -1,7 +1,6 @@
 //! The tokens that are left.
 
 ghost use Rattle.std.specs.Prelude.{◌≡◌, ◌≢◌, ◌<◌, [], IfErr, IfOk, None, false, length, true};
-ghost use Rattle.sap_parse.specs.Limits.{none_yet};
 ghost use Rattle.sap_parse.specs.Reading.{Goes, IsBroken, Passes, ahead, ahead_of, front_name, front_number, front_sized, name_in, number_in, second, sized_in};
 ghost use Rattle.sap_parse.specs.Stages.{IsName, IsNumber, IsSign, IsSized, IsWord, at_start, here, mention, numeral};
 ghost use Rattle.sap_parse.specs.Table as s;

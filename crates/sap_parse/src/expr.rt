@@ -5,10 +5,10 @@ ghost use Rattle.sap_parse.specs.Grammar as g;
 ghost use Rattle.sap_parse.specs.Joining.{Collects, Indexes, Slices};
 ghost use Rattle.sap_parse.specs.Reading.{Goes, ahead, second};
 ghost use Rattle.sap_parse.specs.Rows.{Asked, Between, LastNumber, Range, RowGoes, asked_row, between_row, last_number_row, range_row};
-ghost use Rattle.sap_parse.specs.Stages.{here, spot_here};
+ghost use Rattle.sap_parse.specs.Stages.{here};
 ghost use Rattle.sap_parse.specs.Table as s;
 ghost use Rattle.sap_tree.specs.Syntax as t;
-ghost use Rattle.sap_tree.specs.Trees.{expression_of, expressions_of};
+ghost use Rattle.sap_tree.specs.Trees.{expression_of};
 
 use crate::choice::{Primary, operator_at, primary_of, sign_of, unary_at, unary_sign_of};
 use crate::cursor::{Ahead, Cursor, Fault};

@@ -1,6 +1,6 @@
 //! The reader of tag expressions.
 
-ghost use Rattle.std.specs.Prelude.{◌≡◌, ◌≤◌, ◌<◌, IfOk, length};
+ghost use Rattle.std.specs.Prelude.{◌≤◌, ◌<◌, IfOk, length};
 ghost use Rattle.sap_parse.specs.Grammar as g;
 ghost use Rattle.sap_parse.specs.Joining.{CollectsTags};
 ghost use Rattle.sap_parse.specs.Reading.{Goes};

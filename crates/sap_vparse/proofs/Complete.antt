@@ -1,5 +1,5 @@
 -- What the grammar has is what the walk reads.
-use Rattle.sap_lemmas.proofs.Common.{◌≡◌, ◌≢◌, ℕ, List, [], Ok, true, refl, sym, ap, ◌∙◌, ◌&&◌, test_of_same}
+use Rattle.sap_lemmas.proofs.Common.{◌≡◌, ◌≢◌, ℕ, List, [], Ok, true, refl, sym, ap, ◌∙◌, ◌&&◌, test_of_same, bytes_eq_same}
 use Rattle.sap_bits.specs.declared.Op1.TheVariants as unary
 use Rattle.sap_bits.specs.declared.Op1.{Op1}
 use Rattle.sap_bits.specs.declared.Op2.TheVariants as binary
@@ -7,6 +7,7 @@ use Rattle.sap_bits.specs.declared.Op2.{Op2}
 use Rattle.sap_vtext.specs.Grammar as g
 use Rattle.sap_vtext.specs.Grammar.{AreItems, AreParts, ArePorts, IsClocked, IsConstant, IsDigit, IsFile, IsItem, IsLoop, IsName, IsNumber, IsOperand, IsPort, IsRange, IsRight, IsSign, IsWord, binary_sign, unary_sign}
 use Rattle.sap_vtext.specs.Items as item
+use Rattle.sap_vtext.specs.Lexing.{sign_text, word_text}
 use Rattle.sap_vtext.specs.Tokens as t
 use Rattle.sap_vtext.specs.Tokens.{IsToken}
 use Rattle.sap_vparse.specs.Choices.{after_head, item_head, right_head}
@@ -26,10 +27,10 @@ token_reads : (x : Symbol) {p q : List t.Token} {place : ℕ} {kind : t.Kind} �
 token_reads x {q = q} {place} {kind} h e = ap (reads x) h.parts ∙ reads_first x (record { place = place; kind = kind }) q [] e
 
 word : {p q : List t.Token} {x : t.Word} → IsWord p x q → reads (s.word x) p ≡ Ok q
-word {x = x} h = token_reads (s.word x) h.is (ap s.if_same (test_of_same (s.word_number x)))
+word {x = x} h = token_reads (s.word x) h.is (ap s.if_same (bytes_eq_same (word_text x)))
 
 sign : {p q : List t.Token} {x : t.Sign} → IsSign p x q → reads (s.sign x) p ≡ Ok q
-sign {x = x} h = token_reads (s.sign x) h.is (ap s.if_same (test_of_same (s.sign_number x)))
+sign {x = x} h = token_reads (s.sign x) h.is (ap s.if_same (bytes_eq_same (sign_text x)))
 
 name : {p q : List t.Token} {x : item.Mention} → IsName p x q → reads s.name p ≡ Ok q
 name h = token_reads s.name h refl

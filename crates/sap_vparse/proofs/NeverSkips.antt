@@ -1,5 +1,6 @@
 -- No token leaves a symbol of the table out.
-use Rattle.sap_lemmas.proofs.Common.{◌≢◌, ℕ, List, [], ◌∷◌, Bool, true, false, subst, eqb, ◌&&◌}
+use Rattle.sap_lemmas.proofs.Common.{◌≢◌, ℕ, List, [], ◌∷◌, Bool, true, false, subst, eqb, ◌&&◌, bytes_eq}
+use Rattle.sap_vtext.specs.Lexing.{sign_text, word_text}
 use Rattle.sap_vtext.specs.Tokens as t
 use Rattle.sap_vparse.specs.Table as s
 use Rattle.sap_vparse.specs.Table.{Symbol, Row, next}
@@ -22,11 +23,11 @@ same_full true = tt
 same_full false = tt
 
 sign_full : (j : t.Sign) (k : t.Kind) → Full (s.sign_next j k)
-sign_full j (t.sign x) = same_full (eqb (s.sign_number x) (s.sign_number j))
+sign_full j (t.sign x) = same_full (bytes_eq (sign_text x) (sign_text j))
 sign_full j _ = tt
 
 word_full : (j : t.Word) (k : t.Kind) → Full (s.word_next j k)
-word_full j (t.word x) = same_full (eqb (s.word_number x) (s.word_number j))
+word_full j (t.word x) = same_full (bytes_eq (word_text x) (word_text j))
 word_full j _ = tt
 
 digit_full : (j : ℕ) (k : t.Kind) → Full (s.digit_next j k)

@@ -1,15 +1,11 @@
 -- What the walk does with a symbol that is a single token.
-use Rattle.sap_lemmas.proofs.Common.{◌≡◌, ◌≢◌, ◌<◌, ℕ, List, [], ◌∷◌, length, Option, Some, None, Ok, Err, Bool, true, false, refl, sym, ap, ◌∙◌, arith, eqb, ◌==◌, ◌&&◌, if◌then◌else◌, test_of_same, eqb-true}
+use Rattle.sap_lemmas.proofs.Common.{◌≡◌, ◌≢◌, ◌<◌, ℕ, List, [], ◌∷◌, length, Option, Some, None, Ok, Err, Bool, true, false, refl, sym, ap, ◌∙◌, arith, eqb, ◌&&◌, find, bytes_eq, same_Some, test_of_same, bytes_eq_same, equal_of_bytes_eq}
+use Rattle.sap_vtext.specs.Lexing.{sign_text, signs, word_text, words}
 use Rattle.sap_vtext.specs.Tokens as t
 use Rattle.sap_vtext.specs.Tokens.{IsToken}
 use Rattle.sap_vparse.specs.Reading.{Passes, Head, constant_in, front_constant, front_name, front_number, head, head_of, name_in, number_in, of_sign, of_word, plain, reads, steps}
-use Rattle.sap_vlex.specs.Spelling.{sign_of, word_of}
 use Rattle.sap_vparse.specs.Table as s
-use Rattle.sap_vparse.specs.Table.{Symbol, first, grammar, if_same, may_be_empty, next, sign_number, word_number}
-use Rattle.sap_vlex.specs.declared.token.Sign.TheVariants as j
-use Rattle.sap_vlex.specs.declared.token.Sign.{Sign}
-use Rattle.sap_vlex.specs.declared.token.Word.TheVariants as w
-use Rattle.sap_vlex.specs.declared.token.Word.{Word}
+use Rattle.sap_vparse.specs.Table.{Symbol, first, grammar, if_same, may_be_empty, next}
 use Rattle.sap_walk.specs.Walk as walk
 use Rattle.sap_walk.specs.Walk.{cannot_stand, ◌>>=◌}
 use Rattle.sap_walk.proofs.Walking.{read_take, read_stop, read_end}
@@ -54,49 +50,33 @@ passed_is {q = q} {place} {kind} h e = record {
       ∙ ap (λ k. (let y : t.Token = record { place = place; kind = k } in y) ∷ q) e;
 }
 
--- signs and words by number
+-- how a sign and a word are spelled gives them back
 
-pub sign_by : ℕ → t.Sign
-sign_by n =
-    if n == 0 then t.open_paren else (if n == 1 then t.close_paren else (if n == 2 then t.open_brace else (if n == 3 then t.close_brace else
-    (if n == 4 then t.open_bracket else (if n == 5 then t.close_bracket else (if n == 6 then t.comma else (if n == 7 then t.semicolon else
-    (if n == 8 then t.colon else (if n == 9 then t.question else (if n == 10 then t.at else (if n == 11 then t.is else (if n == 12 then t.equal else
-    (if n == 13 then t.not_equal else (if n == 14 then t.less else (if n == 15 then t.less_or_equal else (if n == 16 then t.shift_left else
-    (if n == 17 then t.shift_right else (if n == 18 then t.plus else (if n == 19 then t.minus else (if n == 20 then t.star else
-    (if n == 21 then t.ampersand else (if n == 22 then t.bar else (if n == 23 then t.caret else (t.tilde))))))))))))))))))))))))
-
-sign_back : (x : t.Sign) → sign_by (sign_number x) ≡ x
-unfolding sign_by
+sign_back : (x : t.Sign) → find (λ y. bytes_eq (sign_text x) (sign_text y)) signs ≡ Some x
 sign_back t.open_paren = refl
 sign_back _ = refl
 
-pub word_by : ℕ → t.Word
-word_by n =
-    if n == 0 then t.module_word else (if n == 1 then t.endmodule_word else (if n == 2 then t.input_word else (if n == 3 then t.output_word else
-    (if n == 4 then t.reg_word else (if n == 5 then t.wire_word else (if n == 6 then t.assign_word else (if n == 7 then t.initial_word else
-    (if n == 8 then t.always_word else (if n == 9 then t.posedge_word else (if n == 10 then t.if_word else (if n == 11 then t.for_word else
-    (if n == 12 then t.integer_word else (if n == 13 then t.clk_word else (t.i_word))))))))))))))
-
-word_back : (x : t.Word) → word_by (word_number x) ≡ x
-unfolding word_by
+word_back : (x : t.Word) → find (λ y. bytes_eq (word_text x) (word_text y)) words ≡ Some x
 word_back t.module_word = refl
 word_back _ = refl
 
-pub sign_same : (x y : t.Sign) → eqb (sign_number x) (sign_number y) ≡ true → x ≡ y
-sign_same x y e = sym (sign_back x) ∙ ap sign_by (eqb-true (sign_number x) (sign_number y) e) ∙ sign_back y
+pub sign_same : (x y : t.Sign) → bytes_eq (sign_text x) (sign_text y) ≡ true → x ≡ y
+sign_same x y e =
+    same_Some x y (sym (sign_back x) ∙ ap (λ text. find (λ z. bytes_eq text (sign_text z)) signs) (equal_of_bytes_eq (sign_text x) (sign_text y) e) ∙ sign_back y)
 
-pub word_same : (x y : t.Word) → eqb (word_number x) (word_number y) ≡ true → x ≡ y
-word_same x y e = sym (word_back x) ∙ ap word_by (eqb-true (word_number x) (word_number y) e) ∙ word_back y
+pub word_same : (x y : t.Word) → bytes_eq (word_text x) (word_text y) ≡ true → x ≡ y
+word_same x y e =
+    same_Some x y (sym (word_back x) ∙ ap (λ text. find (λ z. bytes_eq text (word_text z)) words) (equal_of_bytes_eq (word_text x) (word_text y) e) ∙ word_back y)
 
-signs_apart : (x y : t.Sign) → x ≢ y → eqb (sign_number x) (sign_number y) ≡ false
-signs_apart x y ne = by_test (eqb (sign_number x) (sign_number y)) refl where
-  by_test : (b : Bool) → eqb (sign_number x) (sign_number y) ≡ b → b ≡ false
+signs_apart : (x y : t.Sign) → x ≢ y → bytes_eq (sign_text x) (sign_text y) ≡ false
+signs_apart x y ne = by_test (bytes_eq (sign_text x) (sign_text y)) refl where
+  by_test : (b : Bool) → bytes_eq (sign_text x) (sign_text y) ≡ b → b ≡ false
   by_test true e = absurd (ne (sign_same x y e))
   by_test false e = refl
 
-words_apart : (x y : t.Word) → x ≢ y → eqb (word_number x) (word_number y) ≡ false
-words_apart x y ne = by_test (eqb (word_number x) (word_number y)) refl where
-  by_test : (b : Bool) → eqb (word_number x) (word_number y) ≡ b → b ≡ false
+words_apart : (x y : t.Word) → x ≢ y → bytes_eq (word_text x) (word_text y) ≡ false
+words_apart x y ne = by_test (bytes_eq (word_text x) (word_text y)) refl where
+  by_test : (b : Bool) → bytes_eq (word_text x) (word_text y) ≡ b → b ≡ false
   by_test true e = absurd (ne (word_same x y e))
   by_test false e = refl
 
@@ -166,7 +146,7 @@ pub sign_is : (p q : List t.Token) (place : ℕ) (x : t.Sign) → head p ≡ of_
 sign_is p q place x e h = passed_is h (sign_kind x e h)
 
 pub next_sign : (x : t.Sign) (i : t.Kind) → i ≡ t.sign x → next (s.sign x) i ≡ first []
-next_sign x i e = ap (next (s.sign x)) e ∙ ap if_same (test_of_same (sign_number x))
+next_sign x i e = ap (next (s.sign x)) e ∙ ap if_same (bytes_eq_same (sign_text x))
 
 pub next_not_sign : (x : t.Sign) (i : t.Kind) → head_of i ≢ of_sign x → next (s.sign x) i ≡ cannot_stand
 next_not_sign x (t.sign i) ne = ap if_same (signs_apart i x (λ e. ne (ap of_sign e)))
@@ -187,7 +167,7 @@ pub word_is : (p q : List t.Token) (place : ℕ) (x : t.Word) → head p ≡ of_
 word_is p q place x e h = passed_is h (word_kind x e h)
 
 pub next_word : (x : t.Word) (i : t.Kind) → i ≡ t.word x → next (s.word x) i ≡ first []
-next_word x i e = ap (next (s.word x)) e ∙ ap if_same (test_of_same (word_number x))
+next_word x i e = ap (next (s.word x)) e ∙ ap if_same (bytes_eq_same (word_text x))
 
 pub next_not_word : (x : t.Word) (i : t.Kind) → head_of i ≢ of_word x → next (s.word x) i ≡ cannot_stand
 next_not_word x (t.word i) ne = ap if_same (words_apart i x (λ e. ne (ap of_word e)))
@@ -257,30 +237,3 @@ name_read p q place n e h = passed s.name h (ap (next s.name) (name_kind h.token
 
 pub name_refused : (p : List t.Token) → front_name p ≡ None → reads s.name p ≡ Err p
 name_refused p e = refused s.name p refl (λ y ts h. next_not_name y.kind (name_front y ts e h))
-
--- what the reader sees ahead, back from its head
-
-declared_sign : ℕ → Sign
-declared_sign n =
-    if n == 0 then j.OpenParen else (if n == 1 then j.CloseParen else (if n == 2 then j.OpenBrace else (if n == 3 then j.CloseBrace else
-    (if n == 4 then j.OpenBracket else (if n == 5 then j.CloseBracket else (if n == 6 then j.Comma else (if n == 7 then j.Semicolon else
-    (if n == 8 then j.Colon else (if n == 9 then j.Question else (if n == 10 then j.At else (if n == 11 then j.Is else (if n == 12 then j.Equal else
-    (if n == 13 then j.NotEqual else (if n == 14 then j.Less else (if n == 15 then j.LessOrEqual else (if n == 16 then j.ShiftLeft else
-    (if n == 17 then j.ShiftRight else (if n == 18 then j.Plus else (if n == 19 then j.Minus else (if n == 20 then j.Star else (if n == 21 then j.Ampersand else
-    (if n == 22 then j.Bar else (if n == 23 then j.Caret else (j.Tilde))))))))))))))))))))))))
-
-declared_sign_back : (x : Sign) → declared_sign (sign_number (sign_of x)) ≡ x
-unfolding declared_sign
-declared_sign_back j.OpenParen = refl
-declared_sign_back _ = refl
-
-declared_word : ℕ → Word
-declared_word n =
-    if n == 0 then w.Module else (if n == 1 then w.Endmodule else (if n == 2 then w.Input else (if n == 3 then w.Output else (if n == 4 then w.Reg else
-    (if n == 5 then w.Wire else (if n == 6 then w.Assign else (if n == 7 then w.Initial else (if n == 8 then w.Always else (if n == 9 then w.Posedge else
-    (if n == 10 then w.If else (if n == 11 then w.For else (if n == 12 then w.Integer else (if n == 13 then w.Clk else (w.I))))))))))))))
-
-declared_word_back : (x : Word) → declared_word (word_number (word_of x)) ≡ x
-unfolding declared_word
-declared_word_back w.Module = refl
-declared_word_back _ = refl

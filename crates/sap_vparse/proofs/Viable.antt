@@ -1,5 +1,5 @@
 -- Each symbol can be spelled, and tokens that the walk takes go on as the grammar has it.
-use Rattle.sap_lemmas.proofs.Common.{◌≡◌, ℕ, List, [], ◌∷◌, ◌++◌, Bool, true, false, refl, sym, ap, subst, ◌∙◌, eqb, ◌⊎◌, inl, inr, ◌&&◌, eqb-true}
+use Rattle.sap_lemmas.proofs.Common.{◌≡◌, ℕ, List, [], ◌∷◌, ◌++◌, Bool, true, false, refl, sym, ap, subst, ◌∙◌, eqb, ◌⊎◌, inl, inr, ◌&&◌, eqb-true, bytes_eq}
 use Rattle.sap_bits.specs.declared.Op1.TheVariants as unary
 use Rattle.sap_bits.specs.declared.Op1.{Op1}
 use Rattle.sap_bits.specs.declared.Op2.TheVariants as binary
@@ -7,6 +7,7 @@ use Rattle.sap_bits.specs.declared.Op2.{Op2}
 use Rattle.sap_vtext.specs.Grammar as g
 use Rattle.sap_vtext.specs.Grammar.{binary_sign, unary_sign, AreParts, IsClocked, IsConstant, IsDigit, IsFile, IsItem, IsLoop, IsName, IsNumber, IsOperand, IsPort, IsRange, IsSign, IsWord}
 use Rattle.sap_vtext.specs.Items as item
+use Rattle.sap_vtext.specs.Lexing.{sign_text, word_text}
 use Rattle.sap_vtext.specs.Tokens as t
 use Rattle.sap_vtext.specs.Tokens.{IsToken}
 use Rattle.sap_vparse.specs.Parts.{ItemsEnd, PortsEnd, RightEnds}
@@ -100,15 +101,15 @@ one_constant : (p width n : ℕ) (ts : List t.Token) → IsConstant (token p (t.
 one_constant p width n ts = record { parts = refl }
 
 sign_gives : (p : ℕ) (j : t.Sign) (k : t.Kind) → Gives (s.sign_next j k) (λ ts r. IsSign (token p k ∷ ts) j r)
-sign_gives p j (t.sign x) = by_test (eqb (s.sign_number x) (s.sign_number j)) refl where
-  by_test : (b : Bool) → eqb (s.sign_number x) (s.sign_number j) ≡ b → Gives (s.if_same b) (λ ts r. IsSign (token p (t.sign x) ∷ ts) j r)
+sign_gives p j (t.sign x) = by_test (bytes_eq (sign_text x) (sign_text j)) refl where
+  by_test : (b : Bool) → bytes_eq (sign_text x) (sign_text j) ≡ b → Gives (s.if_same b) (λ ts r. IsSign (token p (t.sign x) ∷ ts) j r)
   by_test true e = λ ts r h. subst (λ z. IsSign (token p (t.sign z) ∷ ts) j r) (sym (sign_same x j e)) (subst (λ z. IsSign (token p (t.sign j) ∷ ts) j z) h (one_sign p j ts))
   by_test false e = tt
 sign_gives p j _ = tt
 
 word_gives : (p : ℕ) (j : t.Word) (k : t.Kind) → Gives (s.word_next j k) (λ ts r. IsToken (token p k ∷ ts) p (t.word j) r)
-word_gives p j (t.word x) = by_test (eqb (s.word_number x) (s.word_number j)) refl where
-  by_test : (b : Bool) → eqb (s.word_number x) (s.word_number j) ≡ b → Gives (s.if_same b) (λ ts r. IsToken (token p (t.word x) ∷ ts) p (t.word j) r)
+word_gives p j (t.word x) = by_test (bytes_eq (word_text x) (word_text j)) refl where
+  by_test : (b : Bool) → bytes_eq (word_text x) (word_text j) ≡ b → Gives (s.if_same b) (λ ts r. IsToken (token p (t.word x) ∷ ts) p (t.word j) r)
   by_test true e = λ ts r h. record { parts = ap (λ z. token p (t.word z) ∷ ts) (word_same x j e) ∙ ap (λ z. token p (t.word j) ∷ z) h }
   by_test false e = tt
 word_gives p j _ = tt

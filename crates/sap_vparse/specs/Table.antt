@@ -1,5 +1,7 @@
 -- The module grammar as the walk reads it: what each token does with each symbol.
 use Rattle.std.specs.Prelude.{ℕ, ◌==◌, ◌&&◌, Bool, true, false, List, [], ◌∷◌, Ok}
+use Rattle.std.specs.Str.{bytes_eq}
+use Rattle.sap_vtext.specs.Lexing.{sign_text, word_text}
 use Rattle.sap_vtext.specs.Tokens as t
 use Rattle.sap_walk.specs.Rows.{push}
 use Rattle.sap_walk.specs.Walk.{Next, begins, cannot_stand, Table}
@@ -21,62 +23,18 @@ Row = Next Symbol (Unit {0})
 abbrev pub first : List Symbol → Row
 first σ = begins tt σ
 
--- single tokens
-
-abbrev pub sign_number : t.Sign → ℕ
-sign_number t.open_paren = 0
-sign_number t.close_paren = 1
-sign_number t.open_brace = 2
-sign_number t.close_brace = 3
-sign_number t.open_bracket = 4
-sign_number t.close_bracket = 5
-sign_number t.comma = 6
-sign_number t.semicolon = 7
-sign_number t.colon = 8
-sign_number t.question = 9
-sign_number t.at = 10
-sign_number t.is = 11
-sign_number t.equal = 12
-sign_number t.not_equal = 13
-sign_number t.less = 14
-sign_number t.less_or_equal = 15
-sign_number t.shift_left = 16
-sign_number t.shift_right = 17
-sign_number t.plus = 18
-sign_number t.minus = 19
-sign_number t.star = 20
-sign_number t.ampersand = 21
-sign_number t.bar = 22
-sign_number t.caret = 23
-sign_number t.tilde = 24
-
-abbrev pub word_number : t.Word → ℕ
-word_number t.module_word = 0
-word_number t.endmodule_word = 1
-word_number t.input_word = 2
-word_number t.output_word = 3
-word_number t.reg_word = 4
-word_number t.wire_word = 5
-word_number t.assign_word = 6
-word_number t.initial_word = 7
-word_number t.always_word = 8
-word_number t.posedge_word = 9
-word_number t.if_word = 10
-word_number t.for_word = 11
-word_number t.integer_word = 12
-word_number t.clk_word = 13
-word_number t.i_word = 14
+-- single tokens: a sign and a word by how they are spelled
 
 abbrev pub if_same : Bool → Row
 if_same true = first []
 if_same false = cannot_stand
 
 abbrev pub sign_next : t.Sign → t.Kind → Row
-sign_next j (t.sign i) = if_same (sign_number i == sign_number j)
+sign_next j (t.sign i) = if_same (bytes_eq (sign_text i) (sign_text j))
 sign_next j _ = cannot_stand
 
 abbrev pub word_next : t.Word → t.Kind → Row
-word_next j (t.word i) = if_same (word_number i == word_number j)
+word_next j (t.word i) = if_same (bytes_eq (word_text i) (word_text j))
 word_next j _ = cannot_stand
 
 abbrev pub digit_next : ℕ → t.Kind → Row

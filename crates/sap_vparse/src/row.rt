@@ -1,7 +1,6 @@
 //! The reader of tokens in a row.
 
-ghost use Rattle.std.specs.Prelude.{◌≡◌, ◌+◌, ◌≤◌, ◌<◌, ◌∷◌, [], IfOk, length};
-ghost use Rattle.sap_vtext.specs.Grammar as g;
+ghost use Rattle.std.specs.Prelude.{◌≡◌, ◌+◌, ◌≤◌, ◌<◌, ◌∷◌, IfOk, length};
 ghost use Rattle.sap_vparse.specs.Reading.{Goes, here};
 ghost use Rattle.sap_vparse.specs.Rows.{AreFixed, ConstantThen, GoesOn, IsFixed, NameThen, NumberThen, symbol_of, symbols_of};
 ghost use Rattle.sap_vparse.specs.Table as s;
