@@ -1,5 +1,5 @@
 -- An example: a counter, written in the order in which a module declares it. Its register takes a wire that is declared behind it, and so does its output.
--- A memory has the last four counts.
+-- A memory has the last count of each remainder by four.
 use Rattle.std.specs.Prelude.{codes}
 use Rattle.sap_bits.specs.declared.Op2.TheVariants.{Add}
 use Rattle.sap_net.specs.declared.parts.Operand.TheVariants.{Named, Constant}

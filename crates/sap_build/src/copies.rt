@@ -2,18 +2,8 @@
 
 ghost use Rattle.std.specs.Prelude.{◌≡◌, IfOk};
 
-use sap_net::parts::{Input, Memory, Name, Operand, Operands, Port, Register, Right, Wire};
+use sap_net::parts::{Input, Memory, Operand, Operands, Port, Register, Right, Wire};
 use std::alloc::{AllocError, Global};
-
-pub fn copy_names(alloc: Global, names: &[Name]) -> Result<Vec<Name>, AllocError>
-    ensures { IfOk result (λ copies. copies.items ≡ names.now) }
-{
-    let mut copies = Vec::new(alloc);
-    for name in names {
-        copies.push(name.copy(alloc)?)?;
-    }
-    Ok(copies)
-}
 
 pub fn copy_ports(alloc: Global, ports: &[Port]) -> Result<Vec<Port>, AllocError>
     ensures { IfOk result (λ copies. copies.items ≡ ports.now) }
@@ -107,16 +97,6 @@ pub fn copy_register(alloc: Global, register: &Register) -> Result<Register, All
         start: register.start,
         next: register.next.copy(alloc)?,
     })
-}
-
-pub fn copy_registers(alloc: Global, registers: &[Register]) -> Result<Vec<Register>, AllocError>
-    ensures { IfOk result (λ copies. copies.items ≡ registers.now) }
-{
-    let mut copies = Vec::new(alloc);
-    for register in registers {
-        copies.push(copy_register(alloc, register)?)?;
-    }
-    Ok(copies)
 }
 
 pub fn copy_memory(alloc: Global, memory: &Memory) -> Result<Memory, AllocError>

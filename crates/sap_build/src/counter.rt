@@ -1,6 +1,6 @@
 //! A counter, written part by part.
 
-ghost use Rattle.std.specs.Prelude.{◌≡◌, IfOk, OnOk};
+ghost use Rattle.std.specs.Prelude.{◌≡◌, IfOk};
 ghost use Rattle.sap_build.specs.Counting as spec;
 
 use crate::laws::worked_counter;
@@ -75,7 +75,7 @@ fn count(alloc: Global) -> Result<Register, AllocError>
     })
 }
 
-/// The last four counts.
+/// The last count of each remainder by four.
 fn counts(alloc: Global) -> Result<Memory, AllocError>
     ensures { IfOk result (λ memory. memory ≡ spec.counts) }
 {
@@ -107,7 +107,7 @@ fn begin(alloc: Global) -> Result<Writer, AllocError>
     Ok(writer)
 }
 
-/// A counter that adds its input in each cycle, shows the sum and keeps the last four.
+/// A counter that adds its input in each cycle, shows the sum, and keeps the last sum of each remainder by four.
 pub fn counter(alloc: Global) -> Result<Netlist, AllocError>
     ensures { IfOk result (λ netlist. netlist ≡ spec.counter) }
 {

@@ -5,7 +5,7 @@ use Rattle.sap_lattice.specs.Prelude.{Order, Laws, Levels, order_of, Codes}
 use Rattle.sap_maps.specs.Maps.{Valuation}
 use Rattle.sap_tree.specs.Syntax.{DesignTree}
 use Rattle.sap_shape.specs.WellFormed.{WellFormed}
-use Rattle.sap_meaning.specs.Prelude.{entity, Store, own, start, start_whole, home, level, Refusal, After, Tagged, cycle, run_from, FineProgram, Resting, InputsFit, StreamFits, first, labelled_run, Low, seen}
+use Rattle.sap_meaning.specs.Prelude.{entity, Store, own, start, start_whole, home, Refusal, After, Tagged, cycle, run_from, FineProgram, Resting, InputsFit, StreamFits, first, labelled_run, Low, seen}
 use Rattle.sap_meaning.specs.State.{Fits}
 use Rattle.sap_meaning.specs.Agree as meaning
 use Rattle.sap_meaning.proofs.Paths.{coded_alike}

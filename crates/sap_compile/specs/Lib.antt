@@ -5,13 +5,16 @@ pub mod Faults
 pub mod Parts
 pub mod Runs
 pub mod Stages
+pub use Rattle.sap_check.specs.Checked
 pub use Rattle.sap_hang.specs.Hang
+pub use Rattle.sap_interface.specs.Designs
 pub use Rattle.sap_ir.specs.Plain.Program
 pub use Rattle.sap_ir.specs.Plain.Writes
 pub use Rattle.sap_latfile.specs.LatticeFile
 pub use Rattle.sap_lattice.specs.Levels
 pub use Rattle.sap_parse.specs.Text
 pub use Rattle.sap_shape.specs.WellFormed
+pub use Rattle.sap_share.specs.Copying
 pub use Rattle.sap_size.specs.Items
 pub use Rattle.sap_size.specs.Nested
 pub use Rattle.sap_tree.specs.Syntax

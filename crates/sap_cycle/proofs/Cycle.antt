@@ -2,13 +2,13 @@
 use Rattle.sap_lemmas.proofs.Common.{◌≡◌, ℕ, ◌+◌, ◌<◌, ◌≤◌, List, [], ◌∷◌, ◌++◌, map, Option, Some, None, length, take, drop, sym, ap, ◌∙◌, subst, arith, refl, length-append, append_assoc, slice_index, AllByRecursion, all_follow, take-append_seam, map-append, length-map, append-nil, get_or_append_left}
 use Rattle.std.proofs.Math.Seq.{drop-append_seam, take-length, drop-length}
 use Rattle.sap_maps.specs.Prelude.{Name, Valuation, Scope, find}
-use Rattle.sap_net.specs.Prelude.{operand_value, IsMemory, Net, IsNetlist, width_of, first_readable, readable, shapes, input_names, register_names, wire_names, written, observed, InputsAre, IsCycle}
+use Rattle.sap_net.specs.Prelude.{operand_value, IsMemory, Net, IsNetlist, width_of, first_readable, readable, shapes, input_names, register_names, wire_names, written, observed, InputsAre, IsCycle, ValuesBelow}
 use Rattle.sap_net.specs.declared.parts.Input.{Input}
 use Rattle.sap_net.specs.declared.parts.Register.{Register}
 use Rattle.sap_net.specs.declared.parts.Wire.{Wire}
 use Rattle.sap_net.specs.declared.parts.Memory.{Memory}
 use Rattle.sap_net.proofs.Same.{all_found}
-use Rattle.sap_net.proofs.Within.{ValuesBelow, operand_below, widths_are}
+use Rattle.sap_net.proofs.Within.{operand_below, widths_are}
 use Rattle.sap_net.proofs.Observed.{observed_inputs, observed_registers, observed_wires, observed_memories}
 use Rattle.sap_cycle.specs.declared.steps.Slot.{Slot}
 use Rattle.sap_cycle.specs.declared.steps.Step.{Step}

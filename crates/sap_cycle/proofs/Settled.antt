@@ -6,7 +6,7 @@ use Rattle.std.proofs.lemmas.Option.{some_pair_parts}
 use Rattle.sap_net.proofs.RulesLemmas.{readable_kept}
 use Rattle.sap_maps.specs.Prelude.{Name, Valuation, Scope, find}
 use Rattle.sap_maps.proofs.Terms.{right_fits}
-use Rattle.sap_net.specs.Prelude.{operand_value, operand_width, operands_width, operands_value, right_value, Holds, Shapes, AreOperands, IsRight, AreWires, readable_after, IsWidth}
+use Rattle.sap_net.specs.Prelude.{operand_value, operand_width, operands_width, operands_value, right_value, Holds, Shapes, AreOperands, IsRight, AreWires, readable_after, IsWidth, ValuesBelow, WidthsAre}
 use Rattle.sap_net.specs.declared.parts.Operand.TheVariants.{Named}
 use Rattle.sap_net.specs.declared.parts.Operand.{Operand}
 use Rattle.sap_net.specs.declared.parts.Right.{Right}
@@ -15,7 +15,7 @@ use Rattle.sap_net.specs.declared.parts.Memory.{Memory}
 use Rattle.sap_net.specs.declared.parts.Right.TheVariants as right
 use Rattle.sap_bits.specs.Arithmetic.{joined}
 use Rattle.sap_net.proofs.Same.{AreFound}
-use Rattle.sap_net.proofs.Within.{ValuesBelow, WidthsAre, operand_below, operand_is_wide}
+use Rattle.sap_net.proofs.Within.{operand_below, operand_is_wide}
 use Rattle.sap_cycle.specs.declared.steps.Part.{Part}
 use Rattle.sap_cycle.specs.declared.steps.Slot.{Slot}
 use Rattle.sap_cycle.specs.declared.steps.Slot.TheVariants.{At, Number}

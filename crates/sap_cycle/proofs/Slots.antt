@@ -3,10 +3,10 @@ use Rattle.sap_lemmas.proofs.Common.{◌≡◌, ℕ, ◌+◌, ◌-◌, ◌*◌, 
 use Rattle.sap_bits.specs.Arithmetic.{joined}
 use Rattle.sap_maps.specs.Prelude.{Name, Valuation, Scope}
 use Rattle.sap_maps.proofs.Terms.{joined_below}
-use Rattle.sap_net.specs.Prelude.{operand_value, operand_width, operands_width, operands_value, AreOperands}
+use Rattle.sap_net.specs.Prelude.{operand_value, operand_width, operands_width, operands_value, AreOperands, ValuesBelow, WidthsAre}
 use Rattle.sap_net.specs.declared.parts.Operand.{Operand}
 use Rattle.sap_net.specs.declared.parts.Operand.TheVariants.{Named, Constant}
-use Rattle.sap_net.proofs.Within.{ValuesBelow, WidthsAre, operand_below, operand_is_wide}
+use Rattle.sap_net.proofs.Within.{operand_below, operand_is_wide}
 use Rattle.sap_cycle.specs.declared.steps.Slot.{Slot}
 use Rattle.sap_cycle.specs.declared.steps.Slot.TheVariants.{At, Number}
 use Rattle.sap_cycle.specs.declared.steps.Part.{Part}

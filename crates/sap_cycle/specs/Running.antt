@@ -1,12 +1,12 @@
 -- A netlist that runs.
-use Rattle.std.specs.Prelude.{◌≡◌, ℕ, Bool, List, ◌++◌, map, Option, Some, None, if◌then◌else◌, is_some, nat_lt, unwrap_or, slice_get}
+use Rattle.std.specs.Prelude.{◌≡◌, ℕ, Bool, List, ◌++◌, map, Option, Some, None, if◌then◌else◌, is_some, nat_lt, slice_get}
 use Rattle.std.specs.List.{range_with_len, flat_map}
 use Rattle.sap_maps.specs.Maps.{Name, Valuation}
 use Rattle.sap_maps.specs.Scope.{find}
 use Rattle.sap_net.specs.declared.parts.Memory.{Memory}
 use Rattle.sap_net.specs.Net.{Net}
 use Rattle.sap_net.specs.IsNetlist.{input_names, register_names, wire_names, readable}
-use Rattle.sap_net.specs.Runs.{observed, IsCycle}
+use Rattle.sap_net.specs.Runs.{initial, observed, IsCycle}
 
 -- A runner as contracts see it: its netlist, whether it was stepped, the numbers of the inputs, registers and wires, and the cells of all memories,
 -- one memory behind another.
@@ -30,11 +30,7 @@ cells_of cell ms = flat_map (λ m. map (cell m.name) (range_with_len 0 m.depth))
 
 -- What is seen before the first cycle, where registers and memories have their first numbers, and after a cycle.
 abbrev pub seen : Net → (cycle : Option Valuation) → Valuation
-seen n None =
-    record {
-      value = λ x. unwrap_or (find (map (λ r. (r.name, r.start)) n.registers) x) 0;
-      cell = λ x i. unwrap_or (find (map (λ m. (m.name, m.start)) n.memories) x) 0;
-    }
+seen n None = initial n
 seen n (Some v) = observed n v
 
 -- The runner shows this cycle, or no cycle yet.

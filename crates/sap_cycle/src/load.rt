@@ -1,6 +1,6 @@
 //! The arrays and the program of a netlist.
 
-ghost use Rattle.std.specs.Prelude.{◌≡◌, ◌++◌, false, None, length, map, replicate, IfOk, OnOk};
+ghost use Rattle.std.specs.Prelude.{◌≡◌, ◌++◌, false, None, map, replicate, IfOk, OnOk};
 ghost use Rattle.std.specs.List.{AllByRecursion};
 ghost use Rattle.sap_net.specs.IsNetlist.{IsNetlist, memory_names, width_of};
 ghost use Rattle.sap_cycle.specs.Loaded.{IsProgram, IsRunner, bases_of};

@@ -6,7 +6,6 @@ ghost use Rattle.sap_cycle.specs.Instructions.{placed_step};
 ghost use Rattle.sap_cycle.specs.Runs.{operands_step};
 
 use crate::instructions::{Instruction, Placed};
-use sap_bits::Op2;
 
 /// What the steps of a run do.
 #[derive(Clone, Copy, PartialEq, Eq)]

@@ -1,7 +1,7 @@
 //! Operators over an array of numbers.
 
 ghost use Rattle.std.specs.Prelude.{◌≡◌, ◌≤◌, ◌+◌, length, map};
-ghost use Rattle.sap_cycle.specs.Steps.{slot_value, joined_from, step_value, SlotIn, ArePartsReady, IsReady, AreIn, copied, IsPortReady, ArePortsReady, stored};
+ghost use Rattle.sap_cycle.specs.Steps.{slot_value, joined_from, step_value, SlotIn, ArePartsReady, IsReady, AreIn, copied, ArePortsReady, stored};
 
 use sap_bits::{Op1, Op2, apply1, apply2, concat, slice};
 

@@ -15,13 +15,13 @@ use Rattle.sap_bits.proofs.Within.{value1_below, value2_below}
 use Rattle.sap_bits.proofs.Low.{shl_past, shr_past}
 use Rattle.sap_maps.specs.Prelude.{Name, Valuation, Scope, CountFits}
 use Rattle.sap_maps.proofs.Terms.{right_fits}
-use Rattle.sap_net.specs.Prelude.{Shapes, IsWidth, IsOperand, IsRight, readable_after, operand_value, right_value}
+use Rattle.sap_net.specs.Prelude.{Shapes, IsWidth, IsOperand, IsRight, readable_after, operand_value, right_value, ValuesBelow, WidthsAre}
 use Rattle.sap_net.specs.declared.parts.Operand.{Operand}
 use Rattle.sap_net.specs.declared.parts.Operand.TheVariants.{Named, Constant}
 use Rattle.sap_net.specs.declared.parts.Right.{Right}
 use Rattle.sap_net.specs.declared.parts.Right.TheVariants.{Copy, One, Two, Choose, Concat, Slice, Cell}
 use Rattle.sap_net.specs.declared.parts.Wire.{Wire}
-use Rattle.sap_net.proofs.Within.{ValuesBelow, WidthsAre, operand_below, operand_is_wide}
+use Rattle.sap_net.proofs.Within.{operand_below, operand_is_wide}
 use Rattle.sap_fold.specs.declared.rules.Outcome.{Outcome}
 use Rattle.sap_fold.specs.declared.rules.Outcome.TheVariants.{Keep, Condition, First, Second, Number, NotCondition, NotFirst, NotSecond, ConditionAndFirst, ConditionOrSecond}
 use Rattle.sap_fold.specs.Equals.{Equals}

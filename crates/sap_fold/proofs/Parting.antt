@@ -2,12 +2,12 @@
 use Rattle.sap_lemmas.proofs.Common.{◌≡◌, ℕ, ◌+◌, ◌-◌, ◌*◌, ◌^◌, ◌<◌, ◌≤◌, List, [], ◌∷◌, ◌++◌, length, Option, Some, None, Bool, true, false, sym, ap, ap₂, ◌∙◌, subst, refl, inl, inr, arith, append_assoc, ◌&&◌, nat_le, IfSome, add-mul, pow_pos, pow_mono, pow-add, cases_Bool, and_parts, leb-true}
 use Rattle.std.proofs.Math.Nat.{mul_assoc}
 use Rattle.sap_maps.specs.Prelude.{Name, Valuation, Scope}
-use Rattle.sap_net.specs.Prelude.{IsWidth, IsOperand, AreOperands, readable_after, operand_value, operands_width, operands_value}
+use Rattle.sap_net.specs.Prelude.{IsWidth, IsOperand, AreOperands, readable_after, operand_value, operands_width, operands_value, WidthsAre}
 use Rattle.sap_net.specs.declared.parts.Operand.{Operand}
 use Rattle.sap_net.specs.declared.parts.Operand.TheVariants.{Constant}
 use Rattle.sap_net.specs.declared.parts.Right.TheVariants.{Copy, Concat}
 use Rattle.sap_net.specs.declared.parts.Wire.{Wire}
-use Rattle.sap_net.proofs.Within.{WidthsAre, operand_is_wide}
+use Rattle.sap_net.proofs.Within.{operand_is_wide}
 use Rattle.sap_maps.proofs.Terms.{joined_below}
 use Rattle.sap_fold.specs.Equals.{Equals}
 use Rattle.sap_fold.specs.Folding.{same_operand, fits}

@@ -4,8 +4,7 @@ use Rattle.sap_bits.specs.Arithmetic.{joined}
 use Rattle.sap_maps.specs.Maps.{Name, Valuation}
 use Rattle.sap_maps.specs.Scope.{Scope}
 use Rattle.sap_net.specs.Rules.{IsOperand, AreOperands}
-use Rattle.sap_net.specs.Values.{operand_value, operands_value}
-use Rattle.sap_net.proofs.Within.{WidthsAre}
+use Rattle.sap_net.specs.Values.{operand_value, operands_value, WidthsAre}
 use Rattle.sap_net.specs.declared.parts.Operand.{Operand}
 use Rattle.sap_net.specs.declared.parts.Operand.TheVariants.{Named, Constant}
 use Rattle.sap_fold.specs.Folding.{same_operand}

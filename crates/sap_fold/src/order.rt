@@ -1,6 +1,6 @@
 //! Comparisons of an operand with `|` of it and another.
 
-ghost use Rattle.std.specs.Prelude.{◌⊎◌, IfOk, IfSome, OnOk, ℕ};
+ghost use Rattle.std.specs.Prelude.{IfOk, IfSome, OnOk, ℕ};
 ghost use Rattle.sap_bits.specs.declared.Op2.TheVariants as two;
 ghost use Rattle.sap_net.specs.declared.parts.Right.TheVariants as right;
 ghost use Rattle.sap_fold.specs.Equals.{Equals};

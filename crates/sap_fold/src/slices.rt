@@ -7,7 +7,7 @@ ghost use Rattle.sap_fold.specs.Slices as spec;
 
 use crate::wires::Wires;
 use sap_bits::slice;
-use sap_net::parts::{Name, Operand, Right, Wire};
+use sap_net::parts::{Name, Operand, Right};
 use std::alloc::{AllocError, Global};
 
 /// The bits of an operand from `lo` up to `hi`.

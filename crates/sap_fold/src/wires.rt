@@ -1,6 +1,6 @@
 //! Helping wires, one for each right side and width, that fold no further.
 
-ghost use Rattle.std.specs.Prelude.{◌≡◌, ◌≤◌, ◌<◌, ◌^◌, ◌∷◌, [], ◌++◌, ℕ, None, Some, IfOk, IfSome, OnOk, false, length};
+ghost use Rattle.std.specs.Prelude.{◌≡◌, ◌≤◌, ◌<◌, ◌^◌, [], ℕ, None, Some, IfOk, IfSome, OnOk, false, length};
 ghost use Rattle.sap_maps.specs.Scope.{find};
 ghost use Rattle.sap_share.specs.Keys as spec;
 ghost use Rattle.sap_share.specs.Names.{helper};

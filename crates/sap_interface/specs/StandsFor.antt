@@ -1,7 +1,8 @@
 -- When the numbers of a module's cycle stand for a state of a design and the refusals of a cycle.
 use Rattle.std.specs.Prelude.{◌≡◌, ◌<◌, ◌≤◌, ◌⊎◌, ◌↔◌, ℕ, true, false, List, [], ◌∷◌, get_or}
 use Rattle.sap_maps.specs.Maps.{Valuation}
-use Rattle.sap_meaning.specs.Program.{World, Program, entity, root, children, is_register, is_memory, is_state, is_dynamic, depth_of}
+use Rattle.sap_meaning.specs.Program.{World, Program, root, children, is_register, is_memory, is_state, is_dynamic}
+use Rattle.sap_meaning.specs.Sized as sized
 use Rattle.sap_meaning.specs.Store.{Store, own, start, start_whole, number, level, child, Refusal}
 use Rattle.sap_net.specs.PortNames.{value_name, tag_name, refused_name, refused_level_name, seat_name, root_seat}
 
@@ -18,7 +19,7 @@ abbrev pub world : Named → World
 world d = d.program.world
 
 abbrev pub depth : Named → ℕ → ℕ
-depth d m = depth_of (entity (world d) m).kind
+depth d m = sized.depth (world d) m
 
 -- site k is refused, at the level t
 abbrev pub IsRefusedAt : List Refusal → (k t : ℕ) → Type 0

@@ -12,8 +12,8 @@ use Rattle.sap_net.specs.Prelude.{is_name, is_among, AreDistinct, IsWidth, Shape
 use Rattle.sap_ir.specs.declared.guarded.Var.{Var}
 use Rattle.sap_ir.specs.declared.guarded.MemoryVariable.{MemoryVariable}
 use Rattle.sap_ir.specs.Source.{Action, set, put, Command, Source, readable, shapes, width_of}
-use Rattle.sap_ir.specs.IsGuarded.{TermFine, ActionFine, CommandFine, variable_names, declared, is_helping, IsPlainVar, IsRegisterVar, IsStore, IsGuarded}
-use Rattle.sap_ir.specs.Test.{is_width, is_found, of_width, count_fits, term_is_fine, value_is_fine, action_is_fine, command_is_fine, is_plain_var, is_register_var, is_power, is_store, is_guarded}
+use Rattle.sap_ir.specs.IsGuarded.{TermFine, ActionFine, CommandFine, variable_names, declared, is_helping, IsPlainVar, IsRegisterVar, IsMemoryVariable, IsGuarded}
+use Rattle.sap_ir.specs.Test.{is_width, is_found, of_width, count_fits, term_is_fine, value_is_fine, action_is_fine, command_is_fine, is_plain_var, is_register_var, is_power, is_memory_variable, is_guarded}
 use Rattle.sap_ir.proofs.Declared.{readable_width, shape_width}
 
 six : {a b c d e f : Bool} → a ≡ true → b ≡ true → c ≡ true → d ≡ true → e ≡ true → f ≡ true → (a && b && c && d && e && f) ≡ true
@@ -114,8 +114,8 @@ power_to (suc k) d b h l e =
       ]) e)
     ]
 
-store_to : (m : MemoryVariable) → IsStore m → is_store m ≡ true
-store_to m h =
+memory_to : (m : MemoryVariable) → IsMemoryVariable m → is_memory_variable m ≡ true
+memory_to m h =
     three_from (width_to m.width h.0) (power_to 12 m.depth h.1.0 h.1.1.0 h.1.1.1 h.1.1.2) (lt-ltb m.start (2 ^ m.width) h.2)
 
 pub guarded_to : (s : Source) → IsGuarded s → is_guarded s ≡ true
@@ -125,6 +125,6 @@ guarded_to s g =
     five_from (six (test_of_all is_name _ (λ x k. k) (declared s) g.named)
     (test_of_all (λ x. not (is_helping x)) _ (λ x k. ap not k) (declared s) g.not_helping) (distinct_to (declared s) d)
     (test_of_all is_plain_var _ plain_to s.inputs g.inputs) (test_of_all is_plain_var _ plain_to s.wires g.wires)
-    (test_of_all is_register_var _ register_to s.registers g.registers)) (test_of_all is_store _ store_to s.memories g.memories)
+    (test_of_all is_register_var _ register_to s.registers g.registers)) (test_of_all is_memory_variable _ memory_to s.memories g.memories)
     (test_of_all (λ x. is_among x (variable_names s.registers ++ variable_names s.wires)) _ (λ x k. k) s.ports g.ports_declared)
     (distinct_to s.ports g.ports_once) (test_of_all (command_is_fine s) _ (command_to s d) s.commands g.commands)

@@ -9,8 +9,8 @@ use Rattle.sap_net.specs.Prelude.{is_name, is_among, IsWidth, Shapes}
 use Rattle.sap_ir.specs.declared.guarded.Var.{Var}
 use Rattle.sap_ir.specs.declared.guarded.MemoryVariable.{MemoryVariable}
 use Rattle.sap_ir.specs.Source.{Action, set, put, Command, Source, readable, shapes, width_of}
-use Rattle.sap_ir.specs.IsGuarded.{TermFine, assignable, ActionFine, CommandFine, variable_names, declared, is_helping, IsPlainVar, IsRegisterVar, IsStore, IsGuarded}
-use Rattle.sap_ir.specs.Test.{is_width, is_found, of_width, of_shape, count_fits, term_is_fine, value_is_fine, action_is_fine, command_is_fine, is_plain_var, is_register_var, is_power, is_store, is_guarded}
+use Rattle.sap_ir.specs.IsGuarded.{TermFine, assignable, ActionFine, CommandFine, variable_names, declared, is_helping, IsPlainVar, IsRegisterVar, IsMemoryVariable, IsGuarded}
+use Rattle.sap_ir.specs.Test.{is_width, is_found, of_width, of_shape, count_fits, term_is_fine, value_is_fine, action_is_fine, command_is_fine, is_plain_var, is_register_var, is_power, is_memory_variable, is_guarded}
 
 six : (a b c d e f : Bool) → (a && b && c && d && e && f) ≡ true → (a ≡ true) × (b ≡ true) × (c ≡ true) × (d ≡ true) × (e ≡ true) × (f ≡ true)
 six a b c d e f h = let p = and_parts (a && b && c && d && e) f h in let q = five_parts a b c d e p.0 in (q.0, q.1, q.2, q.3, q.4, p.1)
@@ -104,8 +104,8 @@ power_from (suc k) d h =
     (λ f. let r = power_from k d (rw f at h) in (r.0, r.1, omega (arith, r.2), r.3))
     (cases_Bool (d == 2 ^ suc k))
 
-store_from : (m : MemoryVariable) → is_store m ≡ true → IsStore m
-store_from m h =
+memory_from : (m : MemoryVariable) → is_memory_variable m ≡ true → IsMemoryVariable m
+memory_from m h =
     let p = three_parts _ _ _ h in
     let b = power_from 12 m.depth p.1 in
     (width_from m.width p.0, (b.0, (b.1, b.2, b.3)), ltb-true m.start (2 ^ m.width) p.2)
@@ -122,7 +122,7 @@ guarded_from s h =
       inputs = all_of_test is_plain_var _ plain_from s.inputs b.3;
       wires = all_of_test is_plain_var _ plain_from s.wires b.4;
       registers = all_of_test is_register_var _ register_from s.registers b.5;
-      memories = all_of_test is_store _ store_from s.memories a.1;
+      memories = all_of_test is_memory_variable _ memory_from s.memories a.1;
       ports_declared = all_of_test (λ x. is_among x (variable_names s.registers ++ variable_names s.wires)) _ (λ x k. k) s.ports a.2;
       ports_once = distinct_from s.ports a.3;
       commands = all_of_test (command_is_fine s) _ (command_from s) s.commands a.4;

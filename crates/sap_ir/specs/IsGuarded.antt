@@ -62,8 +62,8 @@ abbrev pub IsRegisterVar : Var → Type 0
 IsRegisterVar x = IsWidth x.width × (x.start < 2 ^ x.width)
 
 -- a depth of 2 to 4096, a power of two
-abbrev pub IsStore : MemoryVariable → Type 0
-IsStore m = IsWidth m.width × ((b : ℕ) × IsDepth m.depth b) × (m.start < 2 ^ m.width)
+abbrev pub IsMemoryVariable : MemoryVariable → Type 0
+IsMemoryVariable m = IsWidth m.width × ((b : ℕ) × IsDepth m.depth b) × (m.start < 2 ^ m.width)
 
 pub record IsGuarded (s : Source) : Type 0 where
   -- names
@@ -74,7 +74,7 @@ pub record IsGuarded (s : Source) : Type 0 where
   pub inputs : AllByRecursion IsPlainVar s.inputs
   pub wires : AllByRecursion IsPlainVar s.wires
   pub registers : AllByRecursion IsRegisterVar s.registers
-  pub memories : AllByRecursion IsStore s.memories
+  pub memories : AllByRecursion IsMemoryVariable s.memories
   -- each port is a register or a wire, and no two are one
   pub ports_declared : AllByRecursion (λ x. is_among x (variable_names s.registers ++ variable_names s.wires) ≡ true) s.ports
   pub ports_once : AreDistinct s.ports

@@ -2,7 +2,7 @@
 pub use Rattle.sap_ir.specs.Calcs.{action_of, command_of, commands_of, term_of}
 pub use Rattle.sap_ir.specs.Guarded.{after, after_action, after_command, begun, cell_at_start, cycle, first_cell, first_number, Going, number_at_start}
 pub use Rattle.sap_ir.specs.Guarded.{register_number, set_cell, value_in}
-pub use Rattle.sap_ir.specs.IsGuarded.{ActionFine, assignable, CommandFine, declared, is_helping, IsGuarded, IsPlainVar, IsRegisterVar, IsStore}
+pub use Rattle.sap_ir.specs.IsGuarded.{ActionFine, assignable, CommandFine, declared, is_helping, IsGuarded, IsMemoryVariable, IsPlainVar, IsRegisterVar}
 pub use Rattle.sap_ir.specs.IsGuarded.{memory_names, TermFine, variable_names}
 pub use Rattle.sap_ir.specs.Plain.Does.{body_does, child_does, enter, falls_of, first_child, put_value, restart}
 pub use Rattle.sap_ir.specs.Plain.IsPlain.{BodyFine, ends_in_transfers, ForestFine, is_gate, is_stop, IsPlain, SeatFine, transfers}

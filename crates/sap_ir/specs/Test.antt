@@ -81,12 +81,12 @@ abbrev pub is_power : (most : ℕ) → ℕ → Bool
 is_power zero d = false
 is_power (suc k) d = d == 2 ^ suc k || is_power k d
 
-abbrev pub is_store : MemoryVariable → Bool
-is_store m = is_width m.width && is_power 12 m.depth && nat_lt m.start (2 ^ m.width)
+abbrev pub is_memory_variable : MemoryVariable → Bool
+is_memory_variable m = is_width m.width && is_power 12 m.depth && nat_lt m.start (2 ^ m.width)
 
 unfoldable pub is_guarded : Source → Bool
 is_guarded s =
     list_all is_name (declared s) && list_all (λ x. not (is_helping x)) (declared s) && are_distinct (declared s)
-    && list_all is_plain_var s.inputs && list_all is_plain_var s.wires && list_all is_register_var s.registers && list_all is_store s.memories
+    && list_all is_plain_var s.inputs && list_all is_plain_var s.wires && list_all is_register_var s.registers && list_all is_memory_variable s.memories
     && list_all (λ x. is_among x (variable_names s.registers ++ variable_names s.wires)) s.ports && are_distinct s.ports
     && list_all (command_is_fine s) s.commands

@@ -3,9 +3,9 @@ use Rattle.sap_lemmas.proofs.Common.{◌≡◌, ℕ, ◌^◌, ◌<◌, ◌==◌,
 use Rattle.sap_net.proofs.RulesLemmas.{readable_kept}
 use Rattle.sap_maps.specs.Prelude.{Name, Valuation, Scope, find}
 use Rattle.sap_maps.proofs.Scopes.{found_here}
-use Rattle.sap_net.specs.Prelude.{AreDistinct, Net, Shapes, AreWires, readable_after, operand_value, Holds, first_readable, readable, shapes, width_of, IsNetlist, written, IsWithin, InputsAre, IsCycle, IsRunAfter, observed}
+use Rattle.sap_net.specs.Prelude.{AreDistinct, Net, Shapes, AreWires, readable_after, operand_value, Holds, first_readable, readable, shapes, width_of, IsNetlist, written, IsWithin, InputsAre, IsCycle, IsRunAfter, observed, WidthsAre}
 use Rattle.sap_net.specs.declared.parts.Wire.{Wire}
-use Rattle.sap_net.proofs.Within.{WidthsAre, widths_are}
+use Rattle.sap_net.proofs.Within.{widths_are}
 use Rattle.sap_net.proofs.Observed.{observed_inputs, observed_registers, observed_wires, observed_memories}
 use Rattle.sap_ir.specs.Prelude.{Source, Going, first_number, first_cell, begun, after, cycle, variable_names, IsGuarded, memories_written, WithinBefore, NumbersFit, WritesOnce}
 use Rattle.sap_ir.specs.declared.guarded.Var.{Var}

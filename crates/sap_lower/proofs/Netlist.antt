@@ -6,7 +6,7 @@ use Rattle.sap_ir.proofs.IsGuardedLemmas.{plain_wide, register_wide}
 use Rattle.sap_maps.specs.Prelude.{Name, Scope, find}
 use Rattle.sap_net.specs.Prelude.{is_among, AreDistinct, IsWidth, IsDepth, IsOperand}
 use Rattle.sap_net.specs.declared.parts.Operand.TheVariants.{Named, Constant}
-use Rattle.sap_ir.specs.Prelude.{Source, Action, set, put, Command, variable_names, memory_names, declared, is_helping, IsStore, ActionFine, CommandFine, IsGuarded}
+use Rattle.sap_ir.specs.Prelude.{Source, Action, set, put, Command, variable_names, memory_names, declared, is_helping, IsMemoryVariable, ActionFine, CommandFine, IsGuarded}
 use Rattle.sap_ir.specs.declared.guarded.Var.{Var}
 use Rattle.sap_ir.specs.declared.guarded.MemoryVariable.{MemoryVariable}
 use Rattle.sap_ir.specs.Source as source
@@ -140,18 +140,18 @@ readable_wide s g n u h =
     wide_found s.inputs _ (plain_wide s.inputs g.inputs)
     (wide_found s.registers _ (register_wide s.registers g.registers) (wide_found s.wires [] (plain_wide s.wires g.wires) none_wide)) n u k
 
-store_found : (ms : List MemoryVariable) → AllByRecursion IsStore ms → (n : Name) (e : ℕ × ℕ) → find (shapes_list ms) n ≡ Some e → IsWidth e.0 × ((b : ℕ) × IsDepth e.1 b)
-store_found [] a n e h = absurd (cc)
-store_found (m ∷ ms) a n e h =
+memory_found : (ms : List MemoryVariable) → AllByRecursion IsMemoryVariable ms → (n : Name) (e : ℕ × ℕ) → find (shapes_list ms) n ≡ Some e → IsWidth e.0 × ((b : ℕ) × IsDepth e.1 b)
+memory_found [] a n e h = absurd (cc)
+memory_found (m ∷ ms) a n e h =
     elim (cases_Bool (bytes_eq m.name n)) [
       | inl t ↦ let q : Some (m.width, m.depth) ≡ Some e = rw t at h in let w : (m.width, m.depth) ≡ e = cc in
           subst (λ (d : ℕ × ℕ). IsWidth d.0 × ((b : ℕ) × IsDepth d.1 b)) w (a.0.0, a.0.1)
-      | inr f ↦ store_found ms a.1 n e (rw f at h)
+      | inr f ↦ memory_found ms a.1 n e (rw f at h)
     ]
 
 first_ports_fit : (s : Source) → IsGuarded s → (sc : Scope) → PortsFit (source.shapes s) sc (map first_port s.memories)
 first_ports_fit s g sc m e h =
-    let f = store_found s.memories g.memories m e h in
+    let f = memory_found s.memories g.memories m e h in
     let b = f.1.0 in
     let d = f.1.1 in
     let k : index_bits e.1 ≡ b = bits_of_depth 12 e.1 b d.1 d.0 d.2 in
@@ -223,4 +223,4 @@ last_fits s g l =
       ports = first_ports_fit s g (first_scope s);
     } in
     commands_fit (source.shapes s) (first_scope s) (source.readable s) (no_helping_memory s g) (readable_wide s g)
-    (λ m e h. (store_found s.memories g.memories m e h).0) s.commands (first_lowering s) (source_commands s g) first l
+    (λ m e h. (memory_found s.memories g.memories m e h).0) s.commands (first_lowering s) (source_commands s g) first l

@@ -8,7 +8,7 @@ use Rattle.sap_maps.specs.Prelude.{Name, Scope, find}
 use Rattle.sap_maps.proofs.Scopes.{found_here}
 use Rattle.sap_net.specs.Prelude.{is_among, AreDistinct, Shapes, IsWidth, IsOperand, AreWires, readable_after, IsRegister, IsMemory, AreValues, AreMemories}
 use Rattle.sap_net.specs.declared.parts.Wire.{Wire}
-use Rattle.sap_ir.specs.Prelude.{Source, variable_names, memory_names, declared, is_helping, IsRegisterVar, IsStore, IsGuarded}
+use Rattle.sap_ir.specs.Prelude.{Source, variable_names, memory_names, declared, is_helping, IsRegisterVar, IsMemoryVariable, IsGuarded}
 use Rattle.sap_ir.specs.declared.guarded.Var.{Var}
 use Rattle.sap_ir.specs.declared.guarded.MemoryVariable.{MemoryVariable}
 use Rattle.sap_ir.specs.Source as source
@@ -124,7 +124,7 @@ nexts_are sc sd vars es g e (x ∷ xs) f a =
     ((a.0.1, operand_grows sc sd g x.width (present es x.name).operand (e x.name x.width f.0).0), nexts_are sc sd vars es g e xs f.1 a.1)
 
 pub writes_are : (ms : Shapes) (sc sd : Scope) (ps : List (Name × WritePort)) → Grows sc sd → PortsFit ms sc ps → (xs : List MemoryVariable)
-    → AllByRecursion (λ m. find ms m.name ≡ Some (m.width, m.depth)) xs → AllByRecursion IsStore xs → AllByRecursion (λ m. IsMemory sd (memory_of ps m)) xs
+    → AllByRecursion (λ m. find ms m.name ≡ Some (m.width, m.depth)) xs → AllByRecursion IsMemoryVariable xs → AllByRecursion (λ m. IsMemory sd (memory_of ps m)) xs
 writes_are ms sc sd ps g k [] f a = tt
 writes_are ms sc sd ps g k (m ∷ xs) f a =
     let p = port_of ps m.name in
@@ -158,6 +158,6 @@ pub values_are : (ms : Shapes) (xs : List Var) → AreDistinct (variable_names x
 values_are ms [] d w n = tt
 values_are ms (x ∷ xs) d w n = (w.0, not_found {X = ℕ} (λ (y : Var). y.name) (λ y. y.width) xs x.name d.0, n.0, values_are ms xs d.1 w.1 n.1)
 
-pub memories_are : (ms : List MemoryVariable) → AreDistinct (memory_names ms) → AllByRecursion IsStore ms → AreMemories (shapes_list ms)
+pub memories_are : (ms : List MemoryVariable) → AreDistinct (memory_names ms) → AllByRecursion IsMemoryVariable ms → AreMemories (shapes_list ms)
 memories_are [] d a = tt
 memories_are (m ∷ ms) d a = (a.0.0, not_found {X = ℕ × ℕ} (λ (y : MemoryVariable). y.name) (λ y. (y.width, y.depth)) ms m.name d.0, memories_are ms d.1 a.1)

@@ -1,34 +1,22 @@
 -- What the netlist of a flat program declares, and whose numbers its runs have.
-use Rattle.std.specs.Prelude.{◌≡◌, ◌⊎◌, ℕ, true, List, ◌++◌, map, filter, not, Some, codes, if◌then◌else◌}
+use Rattle.std.specs.Prelude.{◌≡◌, ◌⊎◌, ℕ, true, List, ◌++◌, map, filter, not, Some, codes}
 use Rattle.std.specs.List.{AllByRecursion, AllZip}
 use Rattle.sap_maps.specs.Maps.{Name, Valuation}
 use Rattle.sap_maps.specs.Scope.{find}
 use Rattle.sap_net.specs.Names.{is_among, IsHelpingName}
 use Rattle.sap_net.specs.Net.{Net}
 use Rattle.sap_net.specs.Runs.{IsRun, AllFit, observed}
-use Rattle.sap_net.specs.declared.parts.PortKind.TheVariants as kind
-use Rattle.sap_net.specs.declared.parts.Port.{Port}
-use Rattle.sap_net.specs.declared.parts.Input.{Input}
 use Rattle.sap_net.specs.declared.parts.Wire.{Wire}
 use Rattle.sap_share.specs.Differing.{AllDiffer}
 use Rattle.sap_ir.specs.declared.guarded.Var.{Var}
 use Rattle.sap_ir.specs.Source.{Source}
 use Rattle.sap_ir.specs.Guarded.{guarded_run}
 use Rattle.sap_ir.specs.IsGuarded.{variable_names, memory_names}
-
-abbrev input_declared : Var → Input
-input_declared x = record { name = x.name; width = x.width }
-
-abbrev input_port_declared : Var → Port
-input_port_declared x = record { name = x.name; kind = kind.Input }
-
--- a port of a register or of a wire
-abbrev port_declared : Source → Name → Port
-port_declared s x = record { name = x; kind = if is_among x (variable_names s.registers) then kind.Register else kind.Wire }
+use Rattle.sap_lower.specs.Lowered.{input_of, input_port, listed, port_shown}
 
 -- the wires that are ports
 abbrev pub port_wires : Source → List Var
-port_wires s = filter (λ x. is_among x.name s.ports) s.wires
+port_wires s = listed s.ports s.wires
 
 -- the name of an input, a register, a memory or a wire that is a port
 abbrev pub IsKept : Source → Name → Type 0
@@ -40,8 +28,8 @@ IsKept s x =
 pub record Declares (s : Source) (n : Net) : Type 0 where
   pub module_name : n.module_name ≡ codes "top"
   -- the inputs, and then the source's ports, in order
-  pub ports : n.ports ≡ map input_port_declared s.inputs ++ map (port_declared s) s.ports
-  pub inputs : n.inputs ≡ map input_declared s.inputs
+  pub ports : n.ports ≡ map input_port s.inputs ++ map (port_shown s.registers) s.ports
+  pub inputs : n.inputs ≡ map input_of s.inputs
   -- the source's registers under their names, with their widths and starts
   pub registers : (x : Name) → find {X = ℕ × ℕ} (map (λ r. (r.name, (r.width, r.start))) n.registers) x ≡ find {X = ℕ × ℕ} (map (λ r. (r.name, (r.width, r.start))) s.registers) x
   pub memories : map {B = Name × (ℕ × (ℕ × ℕ))} (λ m. (m.name, (m.width, (m.depth, m.start)))) n.memories ≡ map (λ m. (m.name, (m.width, (m.depth, m.start)))) s.memories

@@ -1,7 +1,7 @@
 //! Expressions to wires of one operator each.
 
-ghost use Rattle.std.specs.Prelude.{◌≡◌, ◌-◌, ◌+◌, ◌<◌, ◌≤◌, map, IfOk, OnOk};
-ghost use Rattle.sap_bits.specs.Arithmetic.{width1, width2, slice_of};
+ghost use Rattle.std.specs.Prelude.{◌≡◌, ◌-◌, ◌+◌, ◌<◌, map, IfOk, OnOk};
+ghost use Rattle.sap_bits.specs.Arithmetic.{width1, width2};
 ghost use Rattle.sap_ir.specs.Calcs.{term_of};
 ghost use Rattle.sap_lower.specs.Lowering.{cell_width, leaves_nothing, low, low_join, low_slice, low_two, nothing, present};
 ghost use Rattle.sap_lower.specs.Parts.{glued, low_all};

@@ -13,22 +13,15 @@ use Rattle.sap_net.specs.declared.parts.Input.{Input}
 use Rattle.sap_net.specs.declared.parts.Register.{Register}
 use Rattle.sap_net.specs.declared.parts.Memory.{Memory}
 use Rattle.sap_net.specs.Net.{Net}
-use Rattle.sap_net.specs.Values.{operand_value, operand_width, operands_width, operands_value, right_value, Holds}
+use Rattle.sap_net.specs.Values.{operand_value, operand_width, operands_width, operands_value, right_value, Holds, WidthsAre, ValuesBelow}
 use Rattle.sap_net.specs.Rules.{Shapes, IsOperand, AreOperands, IsRight, AreWires, readable_after, IsRegister, IsMemory}
 use Rattle.sap_net.specs.IsNetlist.{first_readable, readable, shapes, width_of, IsNetlist}
 use Rattle.sap_net.specs.Runs.{IsWithin, written, Begins, InputsFit, InputsAre}
 use Rattle.sap_net.specs.Laws.{WithinBefore}
 use Rattle.sap_net.proofs.Same.{AreFound, all_found}
 
-abbrev pub ValuesBelow : Scope → Valuation → Type 0
-ValuesBelow sc v = (n : Name) (u : ℕ) → find sc n ≡ Some u → v.value n < 2 ^ u
-
 abbrev pub CellsBelow : Shapes → Valuation → Type 0
 CellsBelow ms v = (m : Name) (s : ℕ × ℕ) → find ms m ≡ Some s → (i : ℕ) → v.cell m i < 2 ^ s.0
-
--- `widths` has the widths of the names that can be read
-abbrev pub WidthsAre : Scope → (Name → ℕ) → Type 0
-WidthsAre sc widths = (n : Name) (u : ℕ) → find sc n ≡ Some u → widths n ≡ u
 
 pub operand_below : (sc : Scope) (v : Valuation) → ValuesBelow sc v → (u : ℕ) (o : Operand) → IsOperand sc u o → operand_value v o < 2 ^ u
 operand_below sc v b u (Named n) h = b n u h

@@ -13,4 +13,4 @@ pub use Rattle.sap_net.specs.Rules.{readable_after, Shapes}
 pub use Rattle.sap_net.specs.Runs.{AllFit, Begins, cell_after, initial, initial_cell, initial_number, InputsAre, InputsFit, IsCycle, IsRun, IsRunAfter}
 pub use Rattle.sap_net.specs.Runs.{IsValuation, IsWithin, observed, value_after, written}
 pub use Rattle.sap_net.specs.Shown.{has_tag, is_register, port_widths, register_ports, shown_among, shown_by}
-pub use Rattle.sap_net.specs.Values.{Holds, operand_value, operand_width, operands_value, operands_width, right_value}
+pub use Rattle.sap_net.specs.Values.{Holds, operand_value, operand_width, operands_value, operands_width, right_value, ValuesBelow, WidthsAre}

@@ -1,7 +1,8 @@
 -- What operands and right sides are, over a number for each name and each cell.
-use Rattle.std.specs.Prelude.{◌≡◌, ℕ, ◌+◌, ◌==◌, List, [], ◌∷◌, if◌then◌else◌}
+use Rattle.std.specs.Prelude.{◌≡◌, ℕ, ◌+◌, ◌<◌, ◌^◌, ◌==◌, List, [], ◌∷◌, Some, if◌then◌else◌}
 use Rattle.sap_bits.specs.Arithmetic.{value1, value2, slice_of, joined}
 use Rattle.sap_maps.specs.Maps.{Name, Valuation}
+use Rattle.sap_maps.specs.Scope.{Scope, find}
 use Rattle.sap_net.specs.declared.parts.Operand.{Operand}
 use Rattle.sap_net.specs.declared.parts.Operand.TheVariants.{Named, Constant}
 use Rattle.sap_net.specs.declared.parts.Right.{Right}
@@ -39,3 +40,11 @@ right_value widths v (Cell m i) = v.cell m (operand_value v i)
 abbrev pub Holds : (widths : Name → ℕ) → Valuation → List Wire → Type 0
 Holds widths v [] = Unit {0}
 Holds widths v (w ∷ ws) = (v.value w.name ≡ right_value widths v w.right) × Holds widths v ws
+
+-- `widths` has the widths with which names are declared
+abbrev pub WidthsAre : Scope → (widths : Name → ℕ) → Type 0
+WidthsAre sc widths = (n : Name) (u : ℕ) → find sc n ≡ Some u → widths n ≡ u
+
+-- each declared name has a number within its width
+abbrev pub ValuesBelow : Scope → Valuation → Type 0
+ValuesBelow sc v = (n : Name) (u : ℕ) → find sc n ≡ Some u → v.value n < 2 ^ u

@@ -1,7 +1,6 @@
 //! The registers that rows show.
 
-ghost use Rattle.std.specs.Prelude.{◌≡◌, true, ◌∷◌, ◌++◌, List, All, map, IfOk, OnOk};
-ghost use Rattle.sap_maps.specs.Maps.{Name as Text};
+ghost use Rattle.std.specs.Prelude.{◌≡◌, true, ◌∷◌, ◌++◌, All, map, IfOk, OnOk};
 ghost use Rattle.sap_maps.specs.Scope.{Scope, find};
 ghost use Rattle.sap_net.specs.Names.{is_among, is_name};
 ghost use Rattle.sap_net.specs.IsNetlist.{IsNetlist, register_names};

@@ -185,6 +185,7 @@ impl Simulation {
         ensures netlist { self.new.runner.net ≡ self.old.runner.net }
         ensures planned { IsPlanned lattice.now self.new }
         ensures fields { self.new.fields ≡ self.old.fields }
+        ensures same_room { self.new.room ≡ self.old.room }
     {
         self.runner.netlist().rules();
         lattice.lawful();

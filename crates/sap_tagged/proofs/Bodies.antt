@@ -12,7 +12,7 @@ use Rattle.sap_resolved.specs.Sized.Ranges.{IsWidth, RangedStep, Ranged, RangedA
 use Rattle.sap_net.specs.Names.{is_among}
 use Rattle.sap_ir.specs.Prelude.{Source, readable, shapes, assignable, Body, stop, act, cases, goto, fall, BodyFine, follow}
 use Rattle.sap_ir.proofs.plain.SeatWidths.{seat_positive, seat_within, seat_holds}
-use Rattle.sap_tagged.specs.Prelude.{Key, value_key, tag_key, refused_key, level_key, wire_key, first_key, inner_key, sort, Setting, var, bits, lub, yes, expr, tag_of, guard_of, test_of, written, stays, always, all_dynamic, gives, stores, sweep, raises, looks, resets, effect_of, refusal, attempt_of, attempt_then_of, arm_count, pick_width, picks_arm, picks, decides, pick_of, select_of, wires, wires_block, command_plain, arms_plain, block_plain, Few, FewArms, FewBlock, saved, has_tag}
+use Rattle.sap_tagged.specs.Prelude.{Key, value_key, tag_key, seat_key, refused_key, level_key, wire_key, first_key, inner_key, same, Setting, var, bits, lub, yes, expr, tag_of, guard_of, test_of, written, stays, always, all_dynamic, gives, stores, sweep, raises, looks, resets, effect_of, refusal, attempt_of, attempt_then_of, arm_count, pick_width, picks_arm, picks, decides, pick_of, select_of, wires, wires_block, command_plain, arms_plain, block_plain, Few, FewArms, FewBlock, saved, has_tag}
 use Rattle.sap_tagged.proofs.Bools.{tagged_within, register_within, value_no_memory, kept_no_memory, enforced_within, tagged, tagged_memory}
 use Rattle.sap_tagged.proofs.StepTerms.{Placed}
 use Rattle.sap_tagged.proofs.Ends.{Among}
@@ -26,7 +26,7 @@ pub record Assigns (d : Setting) (s : Source) (fixed : List Name) : Type 0 where
   pub tags : (x : ℕ) → has_tag d.world x ≡ true → is_input d.world x ≡ false → find (assignable s) (d.name (tag_key x)) ≡ Some d.tag
   pub firsts : (m : ℕ) → saved d.world m ≡ true → find (assignable s) (d.name (first_key m)) ≡ Some d.tag
   pub inners : (x : ℕ) → nat_lt x (root d.world) ≡ true → 0 < children d.world x → find (assignable s) (d.name (inner_key x)) ≡ Some d.tag
-  pub free : (a : Key) → (sort a ≡ 2 → ⊥) → is_among (d.name a) fixed ≡ false
+  pub free : (a : Key) → ((p : ℕ) → same a (seat_key p) ≡ false) → is_among (d.name a) fixed ≡ false
 
 -- a wire of a width
 abbrev pub IsWire : Setting → Source → (k u : ℕ) → Type 0
@@ -123,17 +123,14 @@ module _ (d : Setting) (s : Source) (h : Declares d s) (fixed group : List Name)
   Good b = BodyFine s fixed group nested b
 
   pub gives_fine : (a : Key) (t : Term Name) (rest : Body) (u : ℕ) → find (assignable s) (d.name a) ≡ Some u → Fine d s h u t
-      → (sort a ≡ 2 → ⊥) → Good rest → Good (gives d a t rest)
+      → ((p : ℕ) → same a (seat_key p) ≡ false) → Good rest → Good (gives d a t rest)
   gives_fine a t rest u e f n r = ((u, e, f), ap not (w.free a n), r)
 
-  no_seat : (k : ℕ) → (k ≡ 2 → ⊥) → k ≡ 2 → ⊥
-  no_seat k f = f
-
   tag_gives : (x : ℕ) (t : Term Name) (rest : Body) → has_tag d.world x ≡ true → is_input d.world x ≡ false → Fine d s h d.tag t → Good rest → Good (gives d (tag_key x) t rest)
-  tag_gives x t rest q i f r = gives_fine (tag_key x) t rest d.tag (w.tags x q i) f (λ e. omega arith) r
+  tag_gives x t rest q i f r = gives_fine (tag_key x) t rest d.tag (w.tags x q i) f (λ p. refl) r
 
   pub wire_gives : (k u : ℕ) (t : Term Name) (rest : Body) → IsWire d s k u → Fine d s h u t → Good rest → Good (gives d (wire_key k) t rest)
-  wire_gives k u t rest q f r = gives_fine (wire_key k) t rest u q.1 f (λ e. omega arith) r
+  wire_gives k u t rest q f r = gives_fine (wire_key k) t rest u q.1 f (λ p. refl) r
 
   stores_fine : (a : Key) (i t : Term Name) (rest : Body) (u b n : ℕ) → IsWidth b → find (shapes s) (d.name a) ≡ Some (u, n) → 2 ^ b ≡ n
       → Fine d s h b i → Fine d s h u t → Good rest → Good (stores d a i t rest)
@@ -141,7 +138,7 @@ module _ (d : Setting) (s : Source) (h : Declares d s) (fixed group : List Name)
 
   pub sweep_fine : (v : ℕ → Key) (picks : ℕ → Bool) (t : ℕ → Term Name) (x m : ℕ) (rest : Body)
       → ((y : ℕ) → x ≤ y → y < x + m → picks y ≡ true → (u : ℕ) × (find (assignable s) (d.name (v y)) ≡ Some u) × Fine d s h u (t y))
-      → ((y : ℕ) → sort (v y) ≡ 2 → ⊥) → Good rest → Good (sweep d v picks t x m rest)
+      → ((y p : ℕ) → same (v y) (seat_key p) ≡ false) → Good rest → Good (sweep d v picks t x m rest)
   sweep_fine v picks t x zero rest f n r = r
   sweep_fine v picks t x (suc m) rest f n r = elim (cases_Bool (picks x)) [
     | inl e ↦
@@ -155,7 +152,7 @@ module _ (d : Setting) (s : Source) (h : Declares d s) (fixed group : List Name)
   pub raises_fine : (hangs : ℕ → Bool) (j : ℕ) (rest : Body) → Hangs d.world hangs → IsWire d s j d.tag → Good rest → Good (raises d hangs j rest)
   raises_fine hangs j rest f q r =
       sweep_fine tag_key hangs (λ x. lub (var d (tag_key x)) (var d (wire_key j))) 0 (root d.world) rest
-      (λ y l k e. let i = f y e in (d.tag, w.tags y i.0 i.1, lub_fine d s h (var d (tag_key y)) (var d (wire_key j)) (h.tags y i.0) q.0)) (λ y e. omega arith) r
+      (λ y l k e. let i = f y e in (d.tag, w.tags y i.0 i.1, lub_fine d s h (var d (tag_key y)) (var d (wire_key j)) (h.tags y i.0) q.0)) (λ y p. refl) r
 
   follow_fine : (a b : Body) → Good a → Good b → Good (follow a b)
   follow_fine stop b f g = g
@@ -188,7 +185,7 @@ module _ (d : Setting) (s : Source) (h : Declares d s) (fixed group : List Name)
         → StepConditions d.world t → Good (effect_of d sp k t)
     effect_fine k (assign site x e) ws f z r c =
         let number : Fine d s h (width d.world x) (expr d e) = subst (λ (u : ℕ). Fine d s h u (expr d e)) z.1 (number_fine d s h e f.1 z.0 r c) in
-        let last : Good (gives d (value_key x) (expr d e) stop) = gives_fine (value_key x) (expr d e) stop (width d.world x) (w.values x f.0) number (λ e. omega arith) tt in
+        let last : Good (gives d (value_key x) (expr d e) stop) = gives_fine (value_key x) (expr d e) stop (width d.world x) (w.values x f.0) number (λ p. refl) tt in
         let m = value_no_memory d.world x (or_right _ (is_register d.world x) f.0) in
         elim (cases_Bool (is_dynamic d.world x)) [
           | inl i ↦ rw i (tag_gives x (var d (wire_key (k + 3))) (gives d (value_key x) (expr d e) stop)
@@ -218,7 +215,7 @@ module _ (d : Setting) (s : Source) (h : Declares d s) (fixed group : List Name)
           | inl i ↦
               rw i
               (gives_fine (value_key x) (choose (var d (wire_key (k + 4))) (var d (value_key x)) (constant (width d.world x) 0)) stop (width d.world x) (w.values x i)
-              (ws.4.0, h.values x (or_right _ (is_register d.world x) i), zero_fine (width d.world x)) (λ e. omega arith) tt)
+              (ws.4.0, h.values x (or_right _ (is_register d.world x) i), zero_fine (width d.world x)) (λ p. refl) tt)
           | inr i ↦ rw i tt
         ])
     effect_fine k (retag_cell site m j n) ws f z r c =
@@ -237,7 +234,7 @@ module _ (d : Setting) (s : Source) (h : Declares d s) (fixed group : List Name)
         let last : Good (goto (d.state_name target) stop) = (named target f, tt) in
         sweep_fine tag_key (resets d.world target) (λ x. bits d d.world.order.bottom) 0 (root d.world)
         (if is_dynamic d.world target then gives d (tag_key target) (var d (wire_key (k + 3))) (goto (d.state_name target) stop) else goto (d.state_name target) stop)
-        (λ y l k e. let v = reset_tag target y (within y (root d.world) k) e in (d.tag, w.tags y v.0 v.1, bits_fine d s h d.world.order.bottom)) (λ y e. omega arith)
+        (λ y l k e. let v = reset_tag target y (within y (root d.world) k) e in (d.tag, w.tags y v.0 v.1, bits_fine d s h d.world.order.bottom)) (λ y p. refl)
         (elim (cases_Bool (is_dynamic d.world target)) [
           | inl j ↦ rw j (tag_gives target (var d (wire_key (k + 3))) (goto (d.state_name target) stop) i.0 (state_no_input (entity d.world target).kind state) ws.3.0 last)
           | inr j ↦ rw j last
@@ -254,7 +251,7 @@ module _ (d : Setting) (s : Source) (h : Declares d s) (fixed group : List Name)
             (tagged d.world y l m, state_no_input (entity d.world y).kind state)
     effect_fine k (fall_to_child site hang) ws f z r c =
         gives_fine (inner_key sp.state) (var d (wire_key (k + 2))) (fall stop) d.tag
-        (w.inners sp.state (tagged_within d.world sp.state (placed.siblings sp.state placed.here).0) (rw placed.seated f)) ws.2.0 (λ e. omega arith) (kids f, tt)
+        (w.inners sp.state (tagged_within d.world sp.state (placed.siblings sp.state placed.here).0) (rw placed.seated f)) ws.2.0 (λ p. refl) (kids f, tt)
 
     -- the wires of the sites that are listed
     abbrev pub AllSites : List sites.PlacedStep → Type 0
@@ -262,8 +259,8 @@ module _ (d : Setting) (s : Source) (h : Declares d s) (fixed group : List Name)
 
     refusal_fine : (k : ℕ) (t : Step) (handler : Body) → StepWires d s k → SiteWires d s (site_of t) → Good handler → Good (refusal d k t handler)
     refusal_fine k t handler ws site g =
-        gives_fine (refused_key (site_of t)) yes (gives d (level_key (site_of t)) (var d (wire_key (k + 2))) handler) 1 site.0 (yes_fine d s h) (λ e. omega arith)
-        (gives_fine (level_key (site_of t)) (var d (wire_key (k + 2))) handler d.tag site.1 ws.2.0 (λ e. omega arith) g)
+        gives_fine (refused_key (site_of t)) yes (gives d (level_key (site_of t)) (var d (wire_key (k + 2))) handler) 1 site.0 (yes_fine d s h) (λ p. refl)
+        (gives_fine (level_key (site_of t)) (var d (wire_key (k + 2))) handler d.tag site.1 ws.2.0 (λ p. refl) g)
 
     -- an effect, or an effect and an accepted part, and what a refusal leads to
     tried_fine : (p k : ℕ) (t : Step) (hangs : ℕ → Bool) (done handler : Body) → IsWire d s p d.tag → StepWires d s k → Hangs d.world hangs

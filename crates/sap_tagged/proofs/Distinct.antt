@@ -8,7 +8,7 @@ use Rattle.sap_ir.specs.Prelude.{declared, variable_names, declarations}
 use Rattle.sap_ir.specs.declared.guarded.Var.{Var}
 use Rattle.sap_ir.specs.declared.guarded.MemoryVariable.{MemoryVariable}
 use Rattle.sap_interface.specs.StandsFor.{Named, world, depth}
-use Rattle.sap_tagged.specs.Prelude.{Key, value_key, tag_key, seat_key, refused_key, level_key, wire_key, first_key, inner_key, index, same, key_name, wires, wires_arms, wires_block, wires_state, wires_group, saved, level_at_start, for_entities, shown_registers, has_own_tag, tag_registers, seat_var, seat_registers, site_wires, step_wires, command_wires, arms_wires, block_wires, state_wires, group_wires, first_wires, inner_wires, memory_of, tags_of, plain_of}
+use Rattle.sap_tagged.specs.Prelude.{Key, value_key, tag_key, seat_key, refused_key, level_key, wire_key, first_key, inner_key, same, key_name, wires, wires_arms, wires_block, wires_state, wires_group, saved, level_at_start, for_entities, shown_registers, has_own_tag, tag_registers, seat_var, seat_registers, site_wires, step_wires, command_wires, arms_wires, block_wires, state_wires, group_wires, first_wires, inner_wires, memory_of, tags_of, plain_of}
 use Rattle.sap_tagged.proofs.KeyNames.{NamesApart, names_apart, same_is}
 
 -- lists of keys
@@ -46,6 +46,17 @@ module _ (d : Named) (names : NamesApart d) where
   distinct_keys (a ∷ ks) h = (not_among a ks h.0, distinct_keys ks h.1)
 
 -- keys of entities, and of numbers in a row
+
+-- the number in a key
+abbrev index : Key → ℕ
+index (value_key x) = x
+index (tag_key x) = x
+index (seat_key p) = p
+index (refused_key k) = k
+index (level_key k) = k
+index (wire_key k) = k
+index (first_key m) = m
+index (inner_key s) = s
 
 abbrev IndexIs : ℕ → Key → Type 0
 IndexIs x a = index a ≡ x

@@ -194,7 +194,7 @@ module _ (nd : Named) (tag : ℕ) (s : Source) (fixed : List Name) (decl : Decla
   saves_fine : (group : List Name) (nested : Bool) (rest : Body) → BodyFine s fixed group nested rest → BodyFine s fixed group nested (saves d rest)
   saves_fine group nested rest g =
       sweep_fine d s decl fixed group assigns nested first_key (saved w) (λ m. var d (tag_key m)) 0 (root w) rest
-      (λ y l k e. let b = and_parts (is_memory w y) (is_dynamic w y) e in (tag, assigns.firsts y e, decl.tags y (tagged_memory w y b.0 b.1))) (λ y e. omega arith) g
+      (λ y l k e. let b = and_parts (is_memory w y) (is_dynamic w y) e in (tag, assigns.firsts y e, decl.tags y (tagged_memory w y b.0 b.1))) (λ y p. refl) g
 
   pub top_fine : (grp q : Group) (n0 k : ℕ) (hangs : ℕ → Bool) (group : List Name) → FineGroup w q 0 q → FineGroup w q n0 grp → ((t : ℕ) → among grp t ≡ true → among q t ≡ true)
       → ((t : ℕ) → among q t ≡ true → is_among (d.state_name t) group ≡ true) → Hangs w hangs → AllFound s (group_wires nd tag k grp)

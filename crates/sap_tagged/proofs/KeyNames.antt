@@ -1,12 +1,12 @@
 -- Different keys have different names.
-use Rattle.sap_lemmas.proofs.Common.{◌≡◌, ℕ, zero, suc, ◌<◌, [], ◌∷◌, Bool, true, false, refl, sym, ap, ap₂, ◌∙◌, subst, arith, nat_lt, nat_eq, inl, inr, bytes_eq, if◌then◌else◌, list_all, is_ascii_digit, cases_Bool, eqb-true, eq-eqb, and_parts, false_from_ne_true, common_steps, iff_same, true_is_not_false, test_symmetric, bytes_eq_same, equal_of_bytes_eq}
+use Rattle.sap_lemmas.proofs.Common.{◌≡◌, ℕ, ◌<◌, [], ◌∷◌, Bool, true, false, refl, sym, ap, ◌∙◌, subst, arith, nat_lt, nat_eq, inl, inr, bytes_eq, if◌then◌else◌, list_all, is_ascii_digit, cases_Bool, eqb-true, eq-eqb, and_parts, false_from_ne_true, common_steps, iff_same, true_is_not_false, test_symmetric, bytes_eq_same, equal_of_bytes_eq}
 use Rattle.sap_maps.specs.Maps.{Name}
 use Rattle.sap_meaning.specs.Program.{root}
 use Rattle.sap_tree.specs.Words.{is_name}
 use Rattle.sap_tree.specs.declared.version.Version.TheVariants.{One}
 use Rattle.sap_net.specs.Names.{is_initial, is_word}
 use Rattle.sap_interface.specs.StandsFor.{Named, name, world}
-use Rattle.sap_tagged.specs.Keys.{Key, value_key, tag_key, seat_key, refused_key, level_key, wire_key, first_key, inner_key, sort, index, same, numeral, entity_word, seat_word, key_name}
+use Rattle.sap_tagged.specs.Keys.{Key, value_key, tag_key, seat_key, refused_key, level_key, wire_key, first_key, inner_key, same, numeral, entity_word, seat_word, key_name}
 use Rattle.sap_tagged.proofs.Numerals.{numeral_injective, numeral_digits, numeral_zero}
 
 numerals_apart : (j k : ℕ) → bytes_eq (numeral j) (numeral k) ≡ nat_eq j k
@@ -95,22 +95,13 @@ module _ (d : Named) (names : NamesApart d) where
   names_apart (inner_key x) (inner_key y) = numerals_apart x y
   names_apart _ _ = refl
 
--- keys by their sort and index
-abbrev key_at : ℕ → ℕ → Key
-key_at zero i = value_key i
-key_at (suc zero) i = tag_key i
-key_at (suc (suc zero)) i = seat_key i
-key_at (suc (suc (suc zero))) i = refused_key i
-key_at (suc (suc (suc (suc zero)))) i = level_key i
-key_at (suc (suc (suc (suc (suc zero))))) i = wire_key i
-key_at (suc (suc (suc (suc (suc (suc zero)))))) i = first_key i
-key_at (suc (suc (suc (suc (suc (suc (suc k))))))) i = inner_key i
-
-key_back : (a : Key) → key_at (sort a) (index a) ≡ a
-key_back (value_key x) = refl
-key_back _ = refl
-
 pub same_is : (a b : Key) → same a b ≡ true → a ≡ b
-same_is a b h =
-    let t = and_parts (nat_eq (sort a) (sort b)) (nat_eq (index a) (index b)) h in
-    sym (key_back a) ∙ ap₂ (λ (i j : ℕ). key_at i j) (eqb-true (sort a) (sort b) t.0) (eqb-true (index a) (index b) t.1) ∙ key_back b
+same_is (value_key x) (value_key y) h = ap value_key (eqb-true x y h)
+same_is (tag_key x) (tag_key y) h = ap tag_key (eqb-true x y h)
+same_is (seat_key p) (seat_key q) h = ap seat_key (eqb-true p q h)
+same_is (refused_key j) (refused_key k) h = ap refused_key (eqb-true j k h)
+same_is (level_key j) (level_key k) h = ap level_key (eqb-true j k h)
+same_is (wire_key j) (wire_key k) h = ap wire_key (eqb-true j k h)
+same_is (first_key m) (first_key n) h = ap first_key (eqb-true m n h)
+same_is (inner_key s) (inner_key t) h = ap inner_key (eqb-true s t h)
+same_is _ _ h = cc

@@ -1,5 +1,5 @@
 -- The plain program of a design keeps the rules of its type: names are found, and states are fine.
-use Rattle.sap_lemmas.proofs.Common.{◌≡◌, ℕ, ◌<◌, List, [], ◌∷◌, ◌++◌, map, Bool, true, false, not, ◌||◌, Some, None, refl, ap, ◌∙◌, subst, nat_lt, nat_eq, bytes_eq, inl, inr, if◌then◌else◌, AllByRecursion, cases_Bool, eqb-true, and_parts, false_from_ne_true, lt-ltb, or_other}
+use Rattle.sap_lemmas.proofs.Common.{◌≡◌, ℕ, ◌<◌, List, [], ◌∷◌, ◌++◌, map, Bool, true, false, not, ◌||◌, Some, None, refl, ap, ◌∙◌, subst, nat_lt, bytes_eq, inl, inr, if◌then◌else◌, AllByRecursion, cases_Bool, and_parts, lt-ltb, or_other}
 use Rattle.sap_net.proofs.NamesLemmas.{among_behind, among_front, not_found}
 use Rattle.sap_meaning.proofs.ProgramLemmas.{own_kind}
 use Rattle.sap_maps.proofs.ScopeLemmas.{found_first, found_second}
@@ -16,7 +16,7 @@ use Rattle.sap_ir.proofs.Declared.{apart_lists}
 use Rattle.sap_net.specs.PortNames as ports
 use Rattle.sap_ir.proofs.plain.SeatWidths.{seat_holds}
 use Rattle.sap_interface.specs.StandsFor.{Named, name, world}
-use Rattle.sap_tagged.specs.Prelude.{numeral, entity_word, Key, seat_key, first_key, inner_key, sort, index, same, key_name, Setting, setting_of, saved, top_plain, variable, level_at_start, value_var, tag_var, seat_var, site_wires, group_wires, first_wires, inner_wires, memory_of, plain_of, has_tag}
+use Rattle.sap_tagged.specs.Prelude.{numeral, entity_word, Key, seat_key, first_key, inner_key, same, key_name, Setting, setting_of, saved, top_plain, variable, level_at_start, value_var, tag_var, seat_var, site_wires, group_wires, first_wires, inner_wires, memory_of, plain_of, has_tag}
 use Rattle.sap_tagged.proofs.Bools.{value_within, memory_within, tagged_within}
 use Rattle.sap_tagged.proofs.KeyNames.{names_apart}
 use Rattle.sap_tagged.proofs.Members.{In, find_by, among_in, in_front, in_behind}
@@ -186,16 +186,15 @@ module _ (d : Named) (tag sites : ℕ) (design : Design d tag sites) (fit : Fitt
   states : LawfulStates set
   states = lawful_states d tag sites design
 
-  no_seat : (a : Key) (q : ℕ) (n : Name) → (sort a ≡ 2 → ⊥) → n ≡ key_name d (seat_key q) → bytes_eq (key_name d a) n ≡ false
+  no_seat : (a : Key) (q : ℕ) (n : Name) → ((p : ℕ) → same a (seat_key p) ≡ false) → n ≡ key_name d (seat_key q) → bytes_eq (key_name d a) n ≡ false
   no_seat a q n f e =
-      ap (bytes_eq (key_name d a)) e ∙ names_apart d design.names a (seat_key q)
-      ∙ false_from_ne_true (same a (seat_key q)) (λ s. f (eqb-true (sort a) 2 (and_parts (nat_eq (sort a) 2) (nat_eq (index a) q) s).0))
+      ap (bytes_eq (key_name d a)) e ∙ names_apart d design.names a (seat_key q) ∙ f q
 
   none_of : (n : Name) (xs : List Name) → AllByRecursion (λ (x : Name). bytes_eq n (seat_name x) ≡ false) xs → is_among n (map seat_name xs) ≡ false
   none_of n [] h = refl
   none_of n (x ∷ xs) h = rw (h.0, none_of n xs h.1) refl
 
-  free : (a : Key) → (sort a ≡ 2 → ⊥) → is_among (key_name d a) (seats p) ≡ false
+  free : (a : Key) → ((p : ℕ) → same a (seat_key p) ≡ false) → is_among (key_name d a) (seats p) ≡ false
   free a f =
       let own : bytes_eq (key_name d a) ports.root_seat ≡ false = no_seat a (root w) ports.root_seat f states.root_seat in
       let others : is_among (key_name d a) (map seat_name (state_names forest)) ≡ false =

@@ -7,7 +7,7 @@ use Rattle.sap_meaning.specs.Program as program
 use Rattle.sap_meaning.specs.Prelude.{World, Kind, entity, root, children, width, is_input, is_register, is_memory, is_dynamic, State, state_node, Group, and_node, Command, lone, try, if_else, try_then, case_of, Arms, last_arm, and_arm, Block, end_block, command_then, kind_is_input, kind_is_register, kind_is_memory, kind_is_state, SizedProgram}
 use Rattle.sap_resolved.specs.Sized.Ranges.{IsWidth, Ranged, RangedArms, RangedBlock, RangedState, RangedGroup, RangedProgram}
 use Rattle.sap_net.specs.Names.{is_name, is_among, AreDistinct}
-use Rattle.sap_ir.specs.Prelude.{Source, IsGuarded, IsPlainVar, IsRegisterVar, IsStore, declared, is_helping, variable_names, Nested, declarations, seat_width}
+use Rattle.sap_ir.specs.Prelude.{Source, IsGuarded, IsPlainVar, IsRegisterVar, IsMemoryVariable, declared, is_helping, variable_names, Nested, declarations, seat_width}
 use Rattle.sap_ir.specs.declared.guarded.Var.{Var}
 use Rattle.sap_ir.proofs.plain.SeatWidths.{seat_positive, seat_within}
 use Rattle.sap_interface.specs.StandsFor.{Named, world, depth}
@@ -152,16 +152,16 @@ module _ (d : Named) (tag sites : ℕ) (design : Design d tag sites) (fit : Fitt
       (each IsPlainVar (λ q. nat_lt 0 (children w q)) (λ q. variable (key_name d (inner_key q)) tag 0 ∷ []) (λ x h. ((fit.wide, refl), tt)))
       (group_vars 0 d.program.states fit.ranged.states))))
 
-  memories_fine : AllByRecursion IsStore src.memories
+  memories_fine : AllByRecursion IsMemoryVariable src.memories
   memories_fine =
-      (each IsStore (is_memory w) (λ m. memory_of d m ∷ tags_of d tag m)
+      (each IsMemoryVariable (is_memory w) (λ m. memory_of d m ∷ tags_of d tag m)
       (λ m h. (
         (value_width m (or_right (is_input w m) (is_register w m || is_memory w m) (or_right (is_register w m) (is_memory w m) h)), fit.ranged.depths m h, pow_pos (width w m)),
         by m h (is_dynamic w m),
       )))
     where
       by : (m : ℕ) → is_memory w m ≡ true → (b : Bool)
-          → AllByRecursion IsStore (if b then [] else record { name = key_name d (tag_key m); width = tag; depth = depth d m; start = level_at_start d m } ∷ [])
+          → AllByRecursion IsMemoryVariable (if b then [] else record { name = key_name d (tag_key m); width = tag; depth = depth d m; start = level_at_start d m } ∷ [])
       by m h true = tt
       by m h false = ((fit.wide, fit.ranged.depths m h, design.small _), tt)
 

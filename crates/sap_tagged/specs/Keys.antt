@@ -1,5 +1,5 @@
 -- The names of a plain program, each by what it names.
-use Rattle.std.specs.Prelude.{ℕ, zero, suc, ◌+◌, ◌/◌, ◌%◌, ◌&&◌, Bool, nat_eq, nat_lt, [], ◌∷◌, ◌++◌, codes, if◌then◌else◌}
+use Rattle.std.specs.Prelude.{ℕ, zero, suc, ◌+◌, ◌/◌, ◌%◌, Bool, false, nat_eq, nat_lt, [], ◌∷◌, ◌++◌, codes, if◌then◌else◌}
 use Rattle.sap_maps.specs.Maps.{Name}
 use Rattle.sap_meaning.specs.Program.{root}
 use Rattle.sap_net.specs.PortNames.{value_name, tag_name, seat_name}
@@ -22,28 +22,16 @@ pub data Key : Type 0 where
   -- the context of the children of a state
   inner_key : ℕ → Key
 
-abbrev pub sort : Key → ℕ
-sort (value_key x) = 0
-sort (tag_key x) = 1
-sort (seat_key p) = 2
-sort (refused_key k) = 3
-sort (level_key k) = 4
-sort (wire_key k) = 5
-sort (first_key m) = 6
-sort (inner_key s) = 7
-
-abbrev pub index : Key → ℕ
-index (value_key x) = x
-index (tag_key x) = x
-index (seat_key p) = p
-index (refused_key k) = k
-index (level_key k) = k
-index (wire_key k) = k
-index (first_key m) = m
-index (inner_key s) = s
-
 abbrev pub same : Key → Key → Bool
-same a b = nat_eq (sort a) (sort b) && nat_eq (index a) (index b)
+same (value_key x) (value_key y) = nat_eq x y
+same (tag_key x) (tag_key y) = nat_eq x y
+same (seat_key p) (seat_key q) = nat_eq p q
+same (refused_key j) (refused_key k) = nat_eq j k
+same (level_key j) (level_key k) = nat_eq j k
+same (wire_key j) (wire_key k) = nat_eq j k
+same (first_key m) (first_key n) = nat_eq m n
+same (inner_key s) (inner_key t) = nat_eq s t
+same _ _ = false
 
 -- a number in decimal, by its last k digits at most
 abbrev pub last_digits : (k n : ℕ) → Name

@@ -3,8 +3,8 @@ pub use Rattle.sap_tagged.specs.Commands.{arm_count, decides, effect_of, for_eac
 pub use Rattle.sap_tagged.specs.Commands.{picks_arm, raises, refusal, resets, stores, sweep, wires, wires_arms, wires_block}
 unfoldable pub use Rattle.sap_tagged.specs.Commands.{arms_plain, attempt_of, attempt_then_of, block_plain, command_plain, pick_of, select_of}
 pub use Rattle.sap_tagged.specs.Few.{Few, FewArms, FewBlock, FewGroup, FewHere, FewState, HaveConstants}
-pub use Rattle.sap_tagged.specs.Keys.{entity_word, first_key, index, inner_key, Key, key_name, level_key, numeral, refused_key, same, seat_key, seat_word}
-pub use Rattle.sap_tagged.specs.Keys.{sort, tag_key, value_key, wire_key}
+pub use Rattle.sap_tagged.specs.Keys.{entity_word, first_key, inner_key, Key, key_name, level_key, numeral, refused_key, same, seat_key, seat_word}
+pub use Rattle.sap_tagged.specs.Keys.{tag_key, value_key, wire_key}
 pub use Rattle.sap_tagged.specs.Law.{AllNumbersFit, declared_in, IsSound, plain_for, PlainsKeepRules, PlainsWriteOnce, RunStands, shown, shows}
 pub use Rattle.sap_tagged.specs.Levels.{all_dynamic, always, below_or_at, bits, cell_tag, child_enters, child_tag, enters, expr, guard_of, lub, new_tag}
 pub use Rattle.sap_tagged.specs.Levels.{place_width, placed, seat_bits, seat_of, stays, tag_of, test_of, told_tag, var, widened, written, yes}

@@ -3,7 +3,7 @@ use Rattle.sap_lemmas.proofs.Common.{◌≡◌, ◌<◌, ℕ, ◌+◌, ◌^◌, 
 use Rattle.sap_bits.specs.Arithmetic as concat
 use Rattle.sap_bits.specs.Arithmetic.{value1, value2}
 use Rattle.sap_maps.specs.Prelude.{Name, Valuation, Scope, find}
-use Rattle.sap_net.specs.Prelude.{Net, is_among, AreDistinct, Shapes, AreValues, IsOperand, AreOperands, IsRight, AreWires, IsMemory, readable_after, first_readable, readable, shapes, width_of, IsValuation, Begins, operand_value, operand_width, operands_width, operands_value, right_value, Holds}
+use Rattle.sap_net.specs.Prelude.{Net, is_among, AreDistinct, Shapes, AreValues, IsOperand, AreOperands, IsRight, AreWires, IsMemory, readable_after, first_readable, readable, shapes, width_of, IsValuation, Begins, operand_value, operand_width, operands_width, operands_value, right_value, Holds, WidthsAre}
 use Rattle.sap_net.specs.declared.parts.Operand.{Operand}
 use Rattle.sap_net.specs.declared.parts.Operand.TheVariants.{Named, Constant}
 use Rattle.sap_net.specs.declared.parts.Right.{Right}
@@ -13,7 +13,7 @@ use Rattle.sap_net.specs.declared.parts.Register.{Register}
 use Rattle.sap_net.specs.declared.parts.Memory.{Memory}
 use Rattle.sap_net.proofs.NamesLemmas.{each_among, found_of}
 use Rattle.sap_net.proofs.RulesLemmas.{Grows, readable_kept}
-use Rattle.sap_net.proofs.Within.{WidthsAre, operand_below, operand_is_wide, widths_are}
+use Rattle.sap_net.proofs.Within.{operand_below, operand_is_wide, widths_are}
 use Rattle.sap_taint.specs.TagNames.{name_of_tag, with_tags}
 use Rattle.sap_taint.specs.Tags.{operand_tag, TagsHold}
 use Rattle.sap_taint.specs.Runs.{TagsBegin}

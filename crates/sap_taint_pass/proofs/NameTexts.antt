@@ -1,5 +1,5 @@
 -- Texts that are no `v_x`.
-use Rattle.sap_lemmas.proofs.Common.{◌≡◌, ◌≢◌, ◌==◌, ◌&&◌, ℕ, [], ◌∷◌, None, ap, ◌∙◌, refl, inl, inr, cases_Bool, and_left, equal_of_test}
+use Rattle.sap_lemmas.proofs.Common.{◌≡◌, ◌≢◌, ◌==◌, ◌&&◌, ℕ, ◌∷◌, None, ap, ◌∙◌, refl, inl, inr, cases_Bool, and_left, equal_of_test}
 use Rattle.sap_maps.specs.Maps.{Name}
 use Rattle.sap_net.specs.PortNames.{value_of}
 

@@ -6,10 +6,10 @@ ghost use Rattle.sap_taint.specs.TagNames.{name_of_tag, HasRoomForTags};
 ghost use Rattle.sap_taint_pass.specs.FaultTexts.{IsTaintFault};
 
 use crate::fault::TaintFault;
-use sap_build::copies::copy_names;
 use sap_net::netlist::Netlist;
 use sap_net::parts::Name;
 use sap_share::places::Places;
+use sap_text::name::copy_names;
 use std::alloc::{AllocError, Global};
 
 /// x, where a name is `v_x`.

@@ -1,6 +1,6 @@
 //! The wires of tags.
 
-ghost use Rattle.std.specs.Prelude.{◌≡◌, ℕ, [], OnOk};
+ghost use Rattle.std.specs.Prelude.{ℕ, [], OnOk};
 ghost use Rattle.sap_net.specs.Net.{Net};
 ghost use Rattle.sap_taint.specs.TagNames.{name_of_tag};
 ghost use Rattle.sap_taint_pass.specs.Tainted as spec;

@@ -6,7 +6,7 @@ use Rattle.sap_net.proofs.NamesLemmas.{each_among, found_of, not_found}
 use Rattle.sap_maps.proofs.ScopeLemmas.{found_first, found_second}
 use Rattle.sap_maps.specs.Prelude.{Name, Valuation, Scope, find, Agree}
 use Rattle.sap_maps.proofs.Scopes.{found_here, agree_both}
-use Rattle.sap_net.specs.Prelude.{is_among, Net, Shapes, AreWires, readable_after, IsRegister, IsMemory, operand_value, Holds, input_names, register_names, first_readable, readable, shapes, width_of, PortShows, IsNetlist, names_of, IsWithin, written, IsCycle, IsRunAfter, value_after, cell_after, observed}
+use Rattle.sap_net.specs.Prelude.{is_among, Net, Shapes, AreWires, readable_after, IsRegister, IsMemory, operand_value, Holds, input_names, register_names, first_readable, readable, shapes, width_of, PortShows, IsNetlist, names_of, IsWithin, written, IsCycle, IsRunAfter, value_after, cell_after, observed, WidthsAre}
 use Rattle.sap_net.specs.declared.parts.PortKind.{PortKind}
 use Rattle.sap_net.specs.declared.parts.Port.{Port}
 use Rattle.sap_net.specs.declared.parts.Input.{Input}
@@ -16,7 +16,7 @@ use Rattle.sap_net.specs.declared.parts.Wire.{Wire}
 use Rattle.sap_net.specs.declared.parts.PortKind.TheVariants as kind
 use Rattle.sap_net.proofs.Settle.{CellsAgree}
 use Rattle.sap_net.proofs.Same.{AreFound, all_found, inputs_agree, registers_agree, cells_agree}
-use Rattle.sap_net.proofs.Within.{WidthsAre, widths_are}
+use Rattle.sap_net.proofs.Within.{widths_are}
 use Rattle.sap_trim.specs.Names.{port_names, shown_wires}
 use Rattle.sap_trim.specs.Alike.{DeclaresAlike, ShowsAlike, RunsAlike}
 use Rattle.sap_trim.specs.Replaced.{Stands, standing_operand}

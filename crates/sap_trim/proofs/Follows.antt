@@ -4,7 +4,7 @@ use Rattle.sap_net.proofs.RulesLemmas.{readable_kept, values_found, Grows, opera
 use Rattle.sap_net.proofs.NamesLemmas.{among_behind, among_front, found_among, not_found}
 use Rattle.sap_maps.proofs.ScopeLemmas.{found_second}
 use Rattle.sap_maps.specs.Prelude.{Name, Valuation, Scope, find, Agree}
-use Rattle.sap_net.specs.Prelude.{is_among, Net, Shapes, IsWidth, IsOperand, IsRight, AreWires, IsRegister, readable_after, operand_value, right_value, Holds, input_names, register_names, memory_names, first_readable, readable, shapes, is_input, IsNetlist, Puts}
+use Rattle.sap_net.specs.Prelude.{is_among, Net, Shapes, IsWidth, IsOperand, IsRight, AreWires, IsRegister, readable_after, operand_value, right_value, Holds, input_names, register_names, memory_names, first_readable, readable, shapes, is_input, IsNetlist, Puts, WidthsAre}
 use Rattle.sap_net.specs.declared.parts.Port.{Port}
 use Rattle.sap_net.specs.declared.parts.Input.{Input}
 use Rattle.sap_net.specs.declared.parts.Register.{Register}
@@ -13,7 +13,6 @@ use Rattle.sap_net.specs.declared.parts.Operand.{Operand}
 use Rattle.sap_net.specs.declared.parts.Operand.TheVariants.{Named, Constant}
 use Rattle.sap_net.specs.declared.parts.Wire.{Wire}
 use Rattle.sap_net.proofs.Settle.{CellsAgree}
-use Rattle.sap_net.proofs.Within.{WidthsAre}
 use Rattle.sap_trim.specs.Names.{port_names, lasting_names}
 use Rattle.sap_trim.specs.Replaced.{Stands, standing, replaced}
 use Rattle.sap_fold.specs.Equals.{Over}

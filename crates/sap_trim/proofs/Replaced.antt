@@ -2,13 +2,13 @@
 use Rattle.sap_lemmas.proofs.Common.{◌≡◌, ℕ, List, [], ◌∷◌, map, length, Option, Some, sym, ap, ◌∙◌, subst, refl, arith, unwrap_or}
 use Rattle.sap_bits.specs.Arithmetic.{slice_of}
 use Rattle.sap_maps.specs.Prelude.{Name, Valuation, Scope, find}
-use Rattle.sap_net.specs.Prelude.{Shapes, IsOperand, AreOperands, IsRight, operand_value, operand_width, operands_width, operands_value, right_value}
+use Rattle.sap_net.specs.Prelude.{Shapes, IsOperand, AreOperands, IsRight, operand_value, operand_width, operands_width, operands_value, right_value, WidthsAre}
 use Rattle.sap_net.specs.declared.parts.Operand.{Operand}
 use Rattle.sap_net.specs.declared.parts.Operand.TheVariants.{Named, Constant}
 use Rattle.sap_net.specs.declared.parts.Right.{Right}
 use Rattle.sap_net.specs.declared.parts.Right.TheVariants.{Copy, One, Two, Choose, Concat, Slice, Cell}
 use Rattle.sap_net.proofs.Settle.{CellsAgree}
-use Rattle.sap_net.proofs.Within.{WidthsAre, operand_is_wide}
+use Rattle.sap_net.proofs.Within.{operand_is_wide}
 use Rattle.sap_fold.proofs.Slicing.{sliced_fits, sliced_value}
 use Rattle.sap_trim.specs.Replaced.{Stands, standing, standing_operand, replaced}
 

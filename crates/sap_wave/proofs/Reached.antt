@@ -2,7 +2,7 @@
 use Rattle.sap_lemmas.proofs.Common.{◌≡◌, ℕ, zero, suc, ◌<◌, ◌≤◌, List, [], ◌∷◌, ◌++◌, Bool, true, false, not, ◌&&◌, Option, Some, None, length, map, get_or, replicate, refl, sym, ap, ◌∙◌, arith, subst, IfNone, IfSome, AllByRecursion, lookup, bytes_eq, digits_value, map-append, true_is_not_false, equal_of_test, test_of_equal, some_same, equal_of_bytes_eq}
 use Rattle.std.proofs.Common.{Vec, Global}
 use Rattle.sap_maps.specs.Prelude.{Name, IsWidth}
-use Rattle.sap_net.specs.Prelude.{Indexes, NameMap, is_among, is_name}
+use Rattle.sap_net.specs.Prelude.{Indexes, NameMap, is_among, is_name, is_number}
 use Rattle.sap_wave.specs.declared.fault.WaveCode.{WaveCode}
 use Rattle.sap_wave.specs.declared.fault.WaveCode.TheVariants.{Y1, Y5}
 use Rattle.sap_wave.specs.declared.state.Block.{Block}
@@ -10,7 +10,6 @@ use Rattle.sap_wave.specs.declared.state.State.{State as Held}
 use Rattle.sap_wave.specs.declared.state.State.TheVariants as held
 use Rattle.sap_wave.specs.declared.variable.Variable.{Variable}
 use Rattle.sap_wave.specs.Prelude.{number, bits_number, identifier, number_spelled, variable, names_of, OpenBlock, declaring, in_block, blocks_of, changed, first_block, is_first, is_full, next_block, numbers_in, width_at, IsChange, IsVariable, after, IsIdle, IsLeast, StandsAtEnd, Misdeclared, no_width, Misplaced, not_later, other_width, state_of, with_number}
-use Rattle.sap_wave.specs.Steps.{is_number}
 use Rattle.sap_wave.proofs.Each.{one_least}
 use Rattle.sap_wave.proofs.Moves.{none_lacks}
 use Rattle.sap_wave.proofs.Stepping.{is_known, number_is}

@@ -1,5 +1,5 @@
 -- What is read of one line after another, as a reader holds it.
-use Rattle.std.specs.Prelude.{◌≡◌, ◌==◌, ◌+◌, ◌<◌, ◌≤◌, ℕ, Bool, false, List, length, set, Option, Some, None, Result, Ok, Err}
+use Rattle.std.specs.Prelude.{◌≡◌, ◌+◌, ◌<◌, ◌≤◌, ℕ, List, length, set, Some, Result, Ok, Err}
 use Rattle.sap_net.specs.NameMaps.{Indexes}
 use Rattle.sap_wave.specs.declared.state.Block.{Block}
 use Rattle.sap_wave.specs.declared.state.State.{State as Held}
@@ -54,11 +54,6 @@ abbrev pub FormRead : State → Form → Result Held Stop → Type 0
 FormRead s f (Ok t) = Takes s f × (state_of t ≡ after s f) × IsIndexed t
 FormRead s f (Err (Code code)) = IsLeast (IsWrong s f) code
 FormRead s f (Err Memory) = Unit {0}
-
--- there is a number, and it is this one
-abbrev pub is_number : ℕ → Option ℕ → Bool
-is_number n None = false
-is_number n (Some k) = k == n
 
 -- a change is of the variable k, which comes behind those that changed, and has as many digits as its width
 pub record IsPlaced (xs : List Variable) (o : OpenBlock) (digits id : List ℕ) (k : ℕ) : Type 0 where

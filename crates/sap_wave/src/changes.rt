@@ -1,6 +1,7 @@
 //! The changes of a block, one after another.
 
 ghost use Rattle.std.specs.Prelude.{◌≡◌, ◌+◌, ◌<◌, ◌≤◌, ◌^◌, ◌&&◌, ℕ, List, true, not, get_or, length, set, IfErr, IfNone, IfOk, IfSome, None, Some};
+ghost use Rattle.sap_net.specs.PortNames.{is_number};
 ghost use Rattle.sap_wave.specs.Digits.{bits_number, number_spelled};
 ghost use Rattle.sap_wave.specs.Lines.{change, is_formed, is_id};
 ghost use Rattle.sap_wave.specs.Reading.{Takes, after, in_block, is_first};
@@ -8,7 +9,7 @@ ghost use Rattle.sap_wave.specs.Read.{IsWaveFault, ReadUpTo};
 ghost use Rattle.sap_wave.specs.Faults.{IsLeast, IsWrong, Misplaced};
 ghost use Rattle.sap_wave.specs.Sound.{IsSound};
 ghost use Rattle.sap_wave.specs.Changes.{IsNoChange};
-ghost use Rattle.sap_wave.specs.Steps.{IsPlaced, is_number, open_of, with_number};
+ghost use Rattle.sap_wave.specs.Steps.{IsPlaced, open_of, with_number};
 ghost use Rattle.sap_wave.specs.Numbers.{now_of};
 
 use crate::fault::{WaveCode, WaveFault};

@@ -1,6 +1,6 @@
 //! What is read of the lines that are no changes.
 
-ghost use Rattle.std.specs.Prelude.{◌≡◌, ◌++◌, ◌∷◌, [], List, true, length, IfNone, IfOk, IfSome, None, OnOk, replicate};
+ghost use Rattle.std.specs.Prelude.{◌≡◌, ◌++◌, ◌∷◌, [], List, true, IfNone, IfOk, IfSome, None, OnOk, replicate};
 ghost use Rattle.std.specs.Str.Parse.{digits_value};
 ghost use Rattle.sap_net.specs.NameMaps.{Indexes};
 ghost use Rattle.sap_net.specs.Names.{is_name};

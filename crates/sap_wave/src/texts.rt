@@ -1,6 +1,6 @@
 //! The lines of a dump.
 
-ghost use Rattle.std.specs.Prelude.{◌≡◌, ◌+◌, ◌<◌, ◌≤◌, ◌++◌, ◌∷◌, All, OnErr, OnOk, length, vec_capacity};
+ghost use Rattle.std.specs.Prelude.{◌≡◌, ◌+◌, ◌<◌, ◌≤◌, ◌++◌, All, OnErr, OnOk, length, vec_capacity};
 ghost use Rattle.sap_text.specs.Places.{line};
 ghost use Rattle.sap_maps.specs.Ranges.{IsWidth};
 ghost use Rattle.sap_wave.specs.Digits.{numeral};

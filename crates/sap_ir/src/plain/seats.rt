@@ -1,6 +1,6 @@
 //! The registers of current children.
 
-ghost use Rattle.std.specs.Prelude.{◌≡◌, ◌++◌, IfOk, codes};
+ghost use Rattle.std.specs.Prelude.{◌≡◌, IfOk};
 ghost use Rattle.sap_ir.specs.Plain.Nested.{seat_width};
 ghost use Rattle.sap_net.specs.PortNames.{seat_name, root_seat};
 
