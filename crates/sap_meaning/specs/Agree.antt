@@ -52,8 +52,8 @@ path_from child tag (and_node a g) (suc n) = path_from child tag g n
 abbrev pub active_path : Program → Store → List ActiveState
 active_path p s = path_from (λ x. child x s) (λ x. level p.world (own x) s) p.states (child (root p.world) s)
 
--- Two active paths are so related: both have ended; or their first states are, by their tags, and are the same where it is
--- one state and the paths below it are so related.
+-- Two active paths are related: both have ended; or their first states are, by their tags, where to be the same means that
+-- it is one state and that the paths below are related.
 abbrev pub PathsRelated : Relation → List ActiveState → List ActiveState → Type 0
 PathsRelated R [] [] = Unit {0}
 PathsRelated R [] (y ∷ ys) = ⊥

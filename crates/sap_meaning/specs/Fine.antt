@@ -52,8 +52,8 @@ NoTransfer c = Asks (λ k. transfers k ≡ false) (λ e. Unit {0}) c
 abbrev pub Open : Command → Type 0
 Open c = Every NoTransfer c
 
--- A list closes: its last command is a transfer, whose handler closes, or an `if` whose branches close, or a `then` whose
--- command is no transfer or a `case`, whose blocks close, and all before it are open.
+-- A list closes: its last command is a transfer, whose handler closes, or an `if` whose branches close, or a `case`, or a
+-- `then` whose command is no transfer, all of whose blocks close; and all before it are open.
 abbrev mutual
   pub Closes : Block → Type 0
   Closes end_block = ⊥

@@ -1,7 +1,7 @@
 //! The labelled meaning of a resolved program: what its commands do, cycle for cycle, to numbers and their levels.
 //!
-//! The definitions stand in `specs/`. Each law stands on an empty function, whose clause a caller in another crate has
-//! by calling it.
+//! The definitions stand in `specs/`. The laws stand on functions that do nothing, whose clauses a caller in another crate
+//! has by calling them.
 #![tactic(auto)]
 
 pub mod examples;
@@ -13,13 +13,14 @@ pub fn lists_serve()
     ensures { ListsServe }
 {}
 
-/// Every command, and so every cycle, keeps what every state keeps.
+/// In a program that has what those of well-formed designs have, every command keeps what every state keeps, and every
+/// cycle leads from a state between cycles to one.
 pub fn states_keep()
     ensures commands { CommandsKeep }
     ensures cycles { StatesRest }
 {}
 
-/// Numbers stay within their widths, and levels stay levels.
+/// Where the widths of a program fit and inputs are within theirs, numbers stay within their widths; levels stay levels.
 pub fn numbers_fit()
     ensures { NumbersFit }
 {}

@@ -1,5 +1,5 @@
 -- Own widths and asked-for widths of expressions. `Some w` is a width, `None` says that there is none.
-use Rattle.std.specs.Prelude.{ℕ, zero, suc, Option, Some, None, Bool, true, false, eqb, leb, ltb, ◌&&◌, ◌^◌, ◌+◌, ◌-◌, if◌then◌else◌}
+use Rattle.std.specs.Prelude.{ℕ, zero, suc, Option, Some, None, Bool, true, false, eqb, leb, ltb, ◌&&◌, ◌^◌, ◌+◌, ◌-◌, if◌then◌else◌, is_some}
 use Rattle.sap_tree.specs.declared.syntax.UnaryOperator.{UnaryOperator}
 use Rattle.sap_tree.specs.declared.syntax.UnaryOperator.TheVariants.{Not, Neg, AllOnes, AnyOne, Odd}
 use Rattle.sap_tree.specs.declared.syntax.BinaryOperator.{BinaryOperator}
@@ -140,11 +140,11 @@ asked_right Comparison whole left right = else_of left right
 abbrev pub asked_one : UnaryOperator → Option ℕ → Option ℕ
 asked_one operator whole = if is_reduction operator then None else whole
 
--- have all parts a width of their own?
+-- is there a width?
 abbrev pub is_sound : Option ℕ → Bool
-is_sound None = false
-is_sound (Some w) = true
+is_sound w = is_some w
 
+-- have all parts a width of their own?
 abbrev pub all_sound : Lookup → Expressions → Bool
 all_sound what no_part = true
 all_sound what (and_part e parts) = is_sound (own what e) && all_sound what parts

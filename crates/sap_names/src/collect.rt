@@ -10,7 +10,7 @@ use crate::entity::Entity;
 use crate::kind::Declared;
 use sap_tree::design::Design;
 use sap_tree::name::Mention;
-use sap_tree::syntax::{Decl, Kind, State};
+use sap_tree::syntax::{Decl, State};
 use std::alloc::{AllocError, Global};
 
 fn copy(alloc: Global, mention: &Mention) -> Result<Mention, AllocError>

@@ -5,8 +5,7 @@ ghost use Rattle.sap_names.specs.NameFaults as faults;
 ghost use Rattle.sap_names.specs.Best.{best_of};
 ghost use Rattle.sap_names.specs.Entities.{what_is};
 ghost use Rattle.sap_names.specs.Lists as lists;
-ghost use Rattle.sap_lattice.specs.Levels.{order_of};
-ghost use Rattle.sap_tree.specs.Trees.{tag_of, tags_of, simple_of, command_of, block_of, else_of, state_of};
+ghost use Rattle.sap_tree.specs.Trees.{tag_of, simple_of, command_of, else_of};
 
 use crate::entities::Entities;
 use crate::expression::expression_faults;

@@ -14,7 +14,7 @@ use crate::usage::note_use;
 use crate::width::{
     asked_left, asked_one, asked_right, else_of, family, index_width, own, sound_width,
 };
-use sap_tree::syntax::{Expr, UnaryOperator};
+use sap_tree::syntax::Expr;
 
 fn unsettled(own: Option<u64>, asked: Option<u64>) -> bool
     ensures { result ≡ faults.unsettled own asked }

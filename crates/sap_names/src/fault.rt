@@ -22,7 +22,7 @@ pub struct Fault {
 /// Why a design is not taken.
 #[derive(Clone, Copy, Debug)]
 pub enum CheckFault {
-    /// The first fault, by place and then by code.
+    /// The first fault: one of names and widths before one of shape, and of these the first by place, then by code.
     Rule(Code, Place),
     /// Want of memory.
     Memory,

@@ -6,7 +6,7 @@ use Rattle.sap_lattice.specs.Order.{Laws}
 use Rattle.sap_meaning.specs.Prelude.{World, Kind, entity, kind_is_input, kind_is_register, kind_is_memory, is_dynamic, is_register, is_memory, is_state, root, below, Step, assign, write, go_to, fall_to_child, Command, lone, try, if_else, try_then, case_of, Arms, last_arm, and_arm, Block, end_block, command_then, State, state_node, Group, no_node, and_node, own, next, next_whole, Store, home, level, child, among, step_hangs, hangs, touches, group_assigns, step_retags, retags, block_retags, state_retags, group_retags, does, does_child, Holds, High, FineTerm, FineStep, FineCommand, inside, number_of, kids_of, ClosingArms, NoTransfer, reaches, Every, EveryInArms, some_in_arms}
 use Rattle.sap_meaning.specs.Program.{input}
 use Rattle.sap_meaning.specs.Fine.{Nth}
-use Rattle.sap_secure.specs.Confinement.{last_group, last_parent, Active, StandsIn, StandsInBlock, is_goto, is_fall, has_goto, has_fall, level_slot, EqualParts, SomeHigh, Guarded, Confinement, StandsInArms}
+use Rattle.sap_secure.specs.Confinement.{last_parent, Active, StandsIn, StandsInBlock, is_goto, is_fall, has_goto, has_fall, level_slot, EqualParts, SomeHigh, Guarded, Confinement, StandsInArms}
 use Rattle.sap_meaning.proofs.WalksLemmas.{some_follows}
 use Rattle.sap_secure.proofs.Apart.{found, hung, unassigned, group_unassigned, inside_state, state_no_register, state_no_memory, register_apart, memory_apart}
 use Rattle.sap_secure.proofs.Concerns.{concerns, hanging}
@@ -144,6 +144,11 @@ nth_retags : (g : Group) (n : ℕ) (t : State) → Nth g n t → (x : ℕ) → g
 nth_retags no_node n t h x r = absurd h
 nth_retags (and_node a g) zero t h x r = subst (λ y. state_retags y x ≡ false) h (neither_left _ _ r)
 nth_retags (and_node a g) (suc n) t h x r = nth_retags g n t h x (neither_right (state_retags a x) _ r)
+
+-- the group in which the way ends that begins in a group and goes down through those states
+abbrev last_group : Group → (way : List State) → Group
+last_group g [] = g
+last_group g (t ∷ way) = last_group (kids_of t) way
 
 -- the groups down the way
 module _ (w : World) (laws : Laws w.order) (l : ℕ) where

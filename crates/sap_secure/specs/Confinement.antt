@@ -10,11 +10,7 @@ use Rattle.sap_meaning.specs.Agree.{High, StatesAgree, seen}
 use Rattle.sap_meaning.specs.Fine.{FineProgram, number_of, kids_of, Nth}
 use Rattle.sap_meaning.specs.Once.{reaches}
 
--- The group in which the way ends that begins in a group and goes down through those states, and that group's parent.
-abbrev pub last_group : Group → (way : List State) → Group
-last_group g [] = g
-last_group g (t ∷ way) = last_group (kids_of t) way
-
+-- the parent of the group in which the way ends that begins below p and goes down through those states
 abbrev pub last_parent : ℕ → (way : List State) → ℕ
 last_parent p [] = p
 last_parent p (t ∷ way) = last_parent (number_of t) way

@@ -1,6 +1,6 @@
 //! One numbering of check sites: the sites of a design's program are the design's, and a cycle comes to each at most once.
 //!
-//! Each law stands on an empty function, whose clauses a caller in another crate has by calling it.
+//! The laws stand on functions that do nothing, whose clauses a caller in another crate has by calling them.
 
 pub mod examples;
 

@@ -1,7 +1,7 @@
 //! The laws of the labelled meaning for designs: confinement, the one-cycle law and runs that agree, refusals that rise,
 //! and what every state keeps, over every lattice and every design that is well formed over it.
 //!
-//! Each law stands on an empty function, whose clauses a caller in another crate has by calling it.
+//! The laws stand on functions that do nothing, whose clauses a caller in another crate has by calling them.
 
 pub mod examples;
 

@@ -1,6 +1,6 @@
 //! No memory is written twice in a cycle of a well-formed design.
 //!
-//! Each law stands on an empty function, whose clauses a caller in another crate has by calling it.
+//! The laws stand on functions that do nothing, whose clauses a caller in another crate has by calling them.
 
 pub mod examples;
 

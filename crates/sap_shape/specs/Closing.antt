@@ -1,19 +1,12 @@
 -- E10: a body must close. A transfer is a `goto` or a `fall`; it stands last, and only there.
-use Rattle.std.specs.Prelude.{List, [], ◌++◌, Bool, true, false, if◌then◌else◌}
+use Rattle.std.specs.Prelude.{List, [], ◌++◌, Bool, true, false, not, if◌then◌else◌}
 use Rattle.sap_text.specs.declared.place.Place.{Place}
 use Rattle.sap_tree.specs.Syntax.{SimpleCommand, assign, write, set_tag, set_cell_tag, go_to, fall_to_child, Command, lone, try, if_else, try_then, case_of, Arms, last_arm, and_arm, CommandBlock, command_block, ElseBlock, no_else, with_else, CommandList, no_command, and_command}
 use Rattle.sap_tree.specs.Walks.{folded, folded_in_block, folded_in_else, folded_in_arms, folded_in_list}
 use Rattle.sap_names.specs.declared.fault.Fault.{Fault}
 use Rattle.sap_names.specs.declared.kind.Code.TheVariants.{E10}
 use Rattle.sap_names.specs.NameFaults.{fault_if}
-
-abbrev pub transfer_faults : SimpleCommand → List Fault
-transfer_faults (assign target e) = []
-transfer_faults (write target index e) = []
-transfer_faults (set_tag place target tag) = []
-transfer_faults (set_cell_tag place target index tag) = []
-transfer_faults (go_to place target) = fault_if true E10 place
-transfer_faults (fall_to_child place) = fault_if true E10 place
+use Rattle.sap_shape.specs.Paths.{place_of}
 
 abbrev pub is_transfer : SimpleCommand → Bool
 is_transfer (assign target e) = false
@@ -22,6 +15,10 @@ is_transfer (set_tag place target tag) = false
 is_transfer (set_cell_tag place target index tag) = false
 is_transfer (go_to place target) = true
 is_transfer (fall_to_child place) = true
+
+-- a transfer that doesn't stand last: E10 at its first token
+abbrev pub transfer_faults : SimpleCommand → List Fault
+transfer_faults k = fault_if (is_transfer k) E10 (place_of k)
 
 -- of a `then`: where its command is a transfer, E10 stands at the `then`, and the command has no other; else it is the blocks that count
 abbrev pub then_faults : SimpleCommand → (place : Place) → (blocks : List Fault) → List Fault
@@ -52,21 +49,11 @@ open_list_faults list = folded_in_list [] ◌++◌ own_open list
 
 -- the last command of a list that must close; `after` is the place of the token after the list
 abbrev pub last_simple_faults : SimpleCommand → (after : Place) → List Fault
-last_simple_faults (assign target e) after = fault_if true E10 after
-last_simple_faults (write target index e) after = fault_if true E10 after
-last_simple_faults (set_tag place target tag) after = fault_if true E10 after
-last_simple_faults (set_cell_tag place target index tag) after = fault_if true E10 after
-last_simple_faults (go_to place target) after = []
-last_simple_faults (fall_to_child place) after = []
+last_simple_faults k after = fault_if (not (is_transfer k)) E10 after
 
 -- the handler of the last command: that of a transfer must close, another must be open
 abbrev pub last_handler_faults : SimpleCommand → (opened closing : List Fault) → List Fault
-last_handler_faults (assign target e) opened closing = opened
-last_handler_faults (write target index e) opened closing = opened
-last_handler_faults (set_tag place target tag) opened closing = opened
-last_handler_faults (set_cell_tag place target index tag) opened closing = opened
-last_handler_faults (go_to place target) opened closing = closing
-last_handler_faults (fall_to_child place) opened closing = closing
+last_handler_faults k opened closing = if is_transfer k then closing else opened
 
 abbrev pub is_end : CommandList → Bool
 is_end no_command = true
