@@ -1,5 +1,5 @@
 -- What a line on channel 2 leaves, and what a text leaves on channel 1 that was cut off.
-use Rattle.std.proofs.Common.{◌≡◌, ◌≤◌, ◌∙◌, ℕ, List, [], take, length, refl, ap, subst, sym}
+use Rattle.std.proofs.Common.{◌≡◌, ◌≤◌, ◌∙◌, ℕ, List, take, length, refl, ap, subst, sym}
 use Rattle.std.specs.Prelude.{Option, Some, None, IsSomeAnd, codes, Result, Ok, Err, OnOk, OnErr, option_map}
 use Rattle.sap_desk.specs.Desk.{Told, added, blamed}
 use Rattle.sap_desk.specs.Whole.{Between, CutOutput, CutLine}

@@ -36,7 +36,8 @@ behind a first word `sapper` stand exactly `2` and `;`.
 
 const E3: &str = "E3: a name is declared twice.
 
-The place is the later declaration. Inputs, registers, memories and states share one set of names.
+The place is the name in the later declaration. Inputs, registers, memories and states share one set
+of names.
 
 Example:
 
@@ -88,8 +89,9 @@ Cure: Write a level that the lattice file lists under `levels`, or add the level
 const E7: &str =
     "E7: a width is out of range or missing, or two widths differ that must be the same.
 
-The place is the first token of the expression that has the wrong width or none, or the number of a
-declared width or depth. Widths are 1 to 64; a depth is a power of two from 2 to 4096.
+The place is the first token of the expression that has the wrong width or none, a number whose own
+width isn't 1 to 64, or the number of a declared width or depth. Widths are 1 to 64; a depth is a
+power of two from 2 to 4096.
 
 Example:
 
@@ -130,8 +132,8 @@ or below the first.
 const E10: &str = "E10: a body doesn't end each of its ways with one transfer.
 
 The place is the token behind the commands that lack one, an `if` without `else` that would have to
-end the body, a transfer that other commands follow, or the `then` of a transfer. A transfer is a
-`goto` or a `fall`.
+end the body, a transfer that other commands follow or that stands in the handler of another command
+than a transfer, or the `then` of a transfer. A transfer is a `goto` or a `fall`.
 
 Example:
 
@@ -140,7 +142,7 @@ Example:
 
 Cure: End each way through the body with `goto` or `fall`, in both branches of an `if` that ends it,
 in each block of a `case` or behind `then`, and in the handler of a transfer, and put none before
-the end.
+the end, nor into the handler of anything else.
 ";
 
 const E11: &str = "E11: a `goto` leaves its group.

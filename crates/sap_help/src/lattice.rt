@@ -25,7 +25,7 @@ Example:
 
     levels = [\"low\", \"high\"]
 
-Cure: Give both keys and no other; `below` may be empty, `below = []`.
+Cure: Give both keys and no other.
 ";
 
 const L3: &str = "L3: there are fewer than 2 levels or more than 64.

@@ -32,7 +32,7 @@ subset may stand in a module.
 const V3: &str = "V3: something is given twice.
 
 The place is the later name: a declaration, or the target of a second `assign`, `initial` or
-`always`.
+`always`; of a second `integer i;` it is the word `integer`.
 
 Example:
 
