@@ -1,5 +1,5 @@
 // A desk in memory, whose calls fail where they are told to.
-ghost use Rattle.std.specs.Prelude.{◌≡◌, ◌++◌, ◌∷◌, [], ◌+◌, ◌/◌, ◌<◌, ◌≤◌, ◌^◌, ◌⊎◌, length, min, take, IfOk, OnOk, OnErr, IfSome, IsSome, IsErr, IsErrOf, Some, None, option_map, if◌then◌else◌};
+ghost use Rattle.std.specs.Prelude.{◌≡◌, ◌++◌, ◌∷◌, [], ◌+◌, ◌/◌, ◌<◌, ◌≤◌, ◌^◌, ◌⊎◌, length, min, IfOk, OnOk, OnErr, IsSome, IsErr, IsErrOf, Some, None, option_map};
 ghost use Rattle.sap_desk.specs.Memory.{BlameStands};
 ghost use Rattle.sap_desk.specs.MemoryCalls.{with_file};
 
@@ -19,8 +19,7 @@ pub struct MemoryDesk {
 }
 
 impl MemoryDesk {
-    ghost use Rattle.sap_desk.specs.Desk.{Told};
-    ghost use Rattle.sap_desk.specs.Told.{Shown, shown, fresh};
+    ghost use Rattle.sap_desk.specs.Told.{shown, fresh};
 
     /// A desk with no files, and with room for so many bytes on each of channels 1 and 2.
     pub fn new(alloc: Global, room: usize) -> Result<MemoryDesk, AllocError>
@@ -77,7 +76,7 @@ impl MemoryDesk {
 // it is to fail by its number (`due`), and for what other causes it fails (`only`).
 impl Desk for MemoryDesk {
     ghost use Rattle.std.specs.Prelude.{Some};
-    ghost use Rattle.sap_desk.specs.Desk.{Told, closed, rest_of, IsWriting, IsOpen, at_number, opened, moved, created, added, finished, blamed, blame_at, name_if_reading, name_if_open};
+    ghost use Rattle.sap_desk.specs.Desk.{closed, rest_of, IsWriting, IsOpen, at_number, opened, moved, created, added, finished, blamed, blame_at, name_if_reading, name_if_open};
     ghost use Rattle.sap_desk.specs.Cause.{CountsAt, CountsOpen, Gave, Took, FailsToRead, FailsToWrite};
     ghost use Rattle.sap_desk.specs.Told.{shown, IsDue, IsSure, Called, TookOf};
 

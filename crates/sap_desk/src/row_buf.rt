@@ -1,6 +1,6 @@
 // A buffer of bytes with room that was made beforehand.
 
-ghost use Rattle.std.specs.Prelude.{◌≡◌, ◌≤◌, [], IfOk, vec_capacity};
+ghost use Rattle.std.specs.Prelude.{◌≡◌, [], IfOk, vec_capacity};
 
 use std::alloc::{AllocError, Global};
 use std::marker::Model;

@@ -1,15 +1,15 @@
 // The files and channels of a desk in memory.
-ghost use Rattle.std.specs.Prelude.{◌≡◌, ◌+◌, ◌-◌, ◌<◌, ◌≤◌, ◌^◌, ◌↔◌, ◌⊎◌, ◌++◌, min, length, take, drop, List, ℕ, Option, None, [], ◌∷◌, IfOk, OnOk, OnErr, IfSome, IfNone, OnSome, IsTrue, IsSome, vec_capacity, string_bytes, option_map, position, slice_get, unwrap_or, Some, false, if◌then◌else◌};
+ghost use Rattle.std.specs.Prelude.{◌≡◌, ◌+◌, ◌-◌, ◌<◌, ◌≤◌, ◌^◌, ◌↔◌, ◌⊎◌, min, length, take, drop, List, ℕ, Option, None, [], IfOk, OnOk, OnErr, IfSome, IfNone, OnSome, IsTrue, vec_capacity, string_bytes, option_map, position, slice_get, unwrap_or, Some, false, if◌then◌else◌};
 ghost use Rattle.std.specs.Bool.{OnTrue, OnFalse};
 ghost use Rattle.sap_desk.specs.Desk.{closed, reads, writes, at_number, opened, moved, created, added, finished, rest_of, name_if_reading, name_if_writing, name_if_open, IsReading, IsWriting, IsOpen};
 ghost use Rattle.sap_desk.specs.Cause.{Gave};
-ghost use Rattle.sap_desk.specs.Memory.{named, file_named, files_of, use_of, use_at, uses_of, written_of, given_of, names_of, told_of, blame_of, BlameStands, KeepsNames};
+ghost use Rattle.sap_desk.specs.Memory.{named, file_named, files_of, use_of, use_at, uses_of, written_of, given_of, names_of, told_of, KeepsNames};
 ghost use Rattle.sap_desk.specs.MemoryCalls.{fitting};
 ghost use Rattle.sap_desk.specs.Room.{claim, claims, rooms_of, Stands, Changed, LongerFile, LongerChannel, Puts};
 ghost use Rattle.sap_desk.specs.declared.stored.StoredFile.{StoredFile};
 ghost use Rattle.sap_desk.specs.declared.stored.State.TheVariants.{Closed, Reading};
 
-use crate::stored::{Blame, Channel, State, StoredFile};
+use crate::stored::{Channel, State, StoredFile};
 use std::alloc::{AllocError, Global};
 
 /// Files by their names, and channels by their numbers.
@@ -212,7 +212,6 @@ fn taken(channels: &Vec<Channel>, room: usize, k: usize, count: usize) -> Option
 }
 
 impl Store {
-    ghost use Rattle.sap_desk.specs.Desk.{Told};
     ghost use Rattle.sap_desk.specs.MemoryCalls.{made, with_file};
     ghost use Rattle.sap_desk.specs.Store.{told_in, given_in, Unchanged};
 

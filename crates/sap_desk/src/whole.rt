@@ -1,5 +1,5 @@
 // Whole files through a desk.
-ghost use Rattle.std.specs.Prelude.{◌≡◌, ◌⊎◌, ◌+◌, ◌<◌, ◌≤◌, ◌^◌, ℕ, min, Some, length, IfOk, OnOk, OnErr, IfSome, IsErrOf, option_map};
+ghost use Rattle.std.specs.Prelude.{◌≡◌, ◌⊎◌, ◌+◌, ◌<◌, ◌≤◌, ◌^◌, ℕ, min, Some, length, IfOk, OnOk, IfSome, IsErrOf, option_map};
 ghost use Rattle.sap_desk.specs.Desk.{rest_of, moved, name_if_reading, blamed, IsReading};
 ghost use Rattle.sap_desk.specs.Cause.{CountsOpen};
 ghost use Rattle.sap_desk.specs.Whole.{Between, FailedReading, IsFront, IsFrontOf, LeftOpen, MissingOrFar, MissingOrLong, OneMore, Wrote, FailedWriting, FillsFile};

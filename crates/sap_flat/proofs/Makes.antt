@@ -1,5 +1,5 @@
 -- What lists of commands and of states become, one after another.
-use Rattle.sap_lemmas.proofs.Common.{◌≡◌, ℕ, zero, suc, ◌+◌, ◌-◌, ◌<◌, ◌≤◌, List, [], ◌∷◌, ◌++◌, length, get_or, drop, Some, None, Bool, refl, sym, ap, ◌∙◌, arith, add-one, append_assoc, inl, inr, Vec, Global, if◌then◌else◌, slice_get, not, Option, true, false, nat_lt, position_or_len, unwrap_or, cond, nat_tests, bytes_eq, cases_Bool, append-nil}
+use Rattle.sap_lemmas.proofs.Common.{◌≡◌, ℕ, zero, suc, ◌+◌, ◌<◌, ◌≤◌, List, [], ◌∷◌, ◌++◌, length, get_or, drop, Some, None, Bool, refl, sym, ap, ◌∙◌, arith, add-one, append_assoc, inl, inr, Vec, Global, if◌then◌else◌, slice_get, not, Option, true, false, nat_lt, position_or_len, unwrap_or, cond, nat_tests, bytes_eq, cases_Bool, append-nil}
 use Rattle.std.proofs.lemmas.List.Recursion.{is_position_or_len}
 use Rattle.std.proofs.lemmas.List.Sums.{prefix_len-le-length}
 use Rattle.sap_maps.specs.Prelude.{Name, Term, constant, read}

@@ -1,6 +1,6 @@
 //! Copies of declarations and actions.
 
-ghost use Rattle.std.specs.Prelude.{◌≡◌, ◌++◌, IfOk, OnOk};
+ghost use Rattle.std.specs.Prelude.{◌≡◌, ◌++◌, IfOk};
 ghost use Rattle.sap_ir.specs.Calcs.{action_of};
 
 use sap_ir::guarded::{Act, MemoryVariable, Var};

@@ -1,10 +1,10 @@
 //! The generated design.
 
-ghost use Rattle.std.specs.Prelude.{◌≡◌, ◌<◌, ◌∷◌, ◌++◌, IfOk, map};
+ghost use Rattle.std.specs.Prelude.{◌≡◌, ◌<◌, ◌∷◌, IfOk, map};
 ghost use Rattle.sap_lattice.specs.Levels.{numbers};
 ghost use Rattle.sap_tree.specs.Bare.{no_spot, nowhere};
 ghost use Rattle.sap_tree.specs.Designs.{design_of};
-ghost use Rattle.sap_tree.specs.Trees.{block_of, command_of, expression_of, state_of, states_of};
+ghost use Rattle.sap_tree.specs.Trees.{block_of, command_of, expression_of, state_of};
 ghost use Rattle.sap_gen.specs.Design.{assignment, body, declared_input, declared_register, design_of_counts, eight_bits, input_name, register_kind, register_name, state, state_name, sum, transfer};
 ghost use Rattle.sap_tree.specs.Making.{enforced, named, states};
 

@@ -2,7 +2,7 @@
 
 ghost use Rattle.std.specs.Prelude.{◌≡◌, ◌&&◌, ◌||◌, ◌++◌, ◌∷◌, [], ℕ, bytes_eq, OnOk};
 ghost use Rattle.sap_hang.specs.Sets.{has};
-ghost use Rattle.sap_hang.specs.Walks.{Adds, Sees, Stands, declared_in, entities_in, home_of, stored, table_of, touched_at};
+ghost use Rattle.sap_hang.specs.Walks.{Adds, Sees, declared_in, entities_in, home_of, stored, table_of, touched_at};
 ghost use Rattle.sap_tree.specs.Points as points;
 ghost use Rattle.sap_tree.specs.Touches as tree;
 ghost use Rattle.sap_tree.specs.Trees.{simple_of};

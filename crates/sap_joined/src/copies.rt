@@ -4,7 +4,7 @@ ghost use Rattle.std.specs.Prelude.{◌≡◌, ◌++◌, map, All, IfOk, OnOk};
 ghost use Rattle.sap_build.specs.Copies as copies;
 ghost use Rattle.sap_joined.specs.Joined.{copies_of};
 ghost use Rattle.sap_joined.specs.Seen as seen;
-ghost use Rattle.sap_joined.specs.Spelled.{IsSpelled, OperandSpelled, RightSpelled, WireSpelled, RegisterSpelled, MemorySpelled};
+ghost use Rattle.sap_joined.specs.Spelled.{OperandSpelled, RightSpelled, WireSpelled, RegisterSpelled, MemorySpelled};
 ghost use Rattle.sap_linked.specs.Parts as parts;
 
 use crate::names::in_part;

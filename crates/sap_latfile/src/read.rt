@@ -1,10 +1,9 @@
 // Reading a lattice file.
 
-ghost use Rattle.std.specs.Prelude.{◌≡◌, ◌≢◌, ◌⊎◌, List, ℕ, Some, IfErr, IfOk, IfSome, IsErrOf, IsOkUnless, MatchOption};
+ghost use Rattle.std.specs.Prelude.{◌≢◌, ◌⊎◌, List, ℕ, Some, IfErr, IfOk, IsErrOf, IsOkUnless};
 ghost use Rattle.toml.specs.View.{table_view};
 ghost use Rattle.sap_lattice.specs.Rules.{KeepsAll};
 ghost use Rattle.sap_lattice.specs.declared.pair.Pair.{Pair as PairOfNames};
-ghost use Rattle.sap_latfile.specs.Document.{Lists};
 ghost use Rattle.sap_latfile.specs.LatticeFile.{FirstFault, IsDocument, IsFileOf, IsLatticeOfFile};
 ghost use Rattle.sap_latfile.specs.declared.fault.LatFileFault.{LatFileFault as AnyFault};
 

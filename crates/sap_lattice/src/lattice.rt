@@ -1,10 +1,10 @@
 // Lattices.
 
-ghost use Rattle.std.specs.Prelude.{◌≡◌, ◌≢◌, ◌<◌, ◌≤◌, ◌==◌, ℕ, IfOk, IfSome, MatchOption, length, position, slice_index_or, [], nat_lt, if◌then◌else◌, map, bit_or};
-ghost use Rattle.sap_lattice.specs.Codes.{Codes, code_of, width_of, is_in_code, number_of};
+ghost use Rattle.std.specs.Prelude.{◌≡◌, ◌≢◌, ◌<◌, ◌==◌, ℕ, IfOk, IfSome, MatchOption, length, position, slice_index_or, [], nat_lt, if◌then◌else◌};
+ghost use Rattle.sap_lattice.specs.Codes.{Codes, code_of, width_of};
 ghost use Rattle.sap_lattice.specs.Finite.{HasJoins};
 ghost use Rattle.sap_lattice.specs.Lawful.{IsAntisymmetric, IsNarrow};
-ghost use Rattle.sap_lattice.specs.Levels.{order_of, level_in, level_named, numbers};
+ghost use Rattle.sap_lattice.specs.Levels.{order_of, level_in, level_named};
 ghost use Rattle.sap_lattice.specs.Order.{Laws};
 ghost use Rattle.sap_lattice.specs.Rows.{le_in, order_in};
 ghost use Rattle.sap_lattice.specs.Rules.{KeepsNames};

@@ -1,9 +1,8 @@
 // From names and pairs to the order that they give.
 
-ghost use Rattle.std.specs.Prelude.{◌≡◌, ◌≢◌, ◌<◌, ◌&&◌, ◌==◌, ℕ, nat_lt, IfOk, IfErr, IfNone, IfSome, OnOk, MatchOption, length};
+ghost use Rattle.std.specs.Prelude.{◌≢◌, ◌<◌, IfOk, IfErr, OnOk, MatchOption, length};
 ghost use Rattle.sap_lattice.specs.Related.{ArePlaces, IsUnknown, TellsPairs, TellsOrder};
-ghost use Rattle.sap_lattice.specs.Rows.{tells};
-ghost use Rattle.sap_lattice.specs.Rules.{BadPair, IsFirst, FirstBroken, KeepsNames, KeepsPairs};
+ghost use Rattle.sap_lattice.specs.Rules.{FirstBroken, KeepsNames, KeepsPairs};
 
 use crate::fault::LatFault;
 use crate::name::Name;

@@ -3,12 +3,11 @@
 ghost use Rattle.std.specs.Prelude.{◌≡◌, ◌≢◌, ◌<◌, ◌↔◌, ◌||◌, ℕ, List, not, nat_lt, IsTrue, IfErr, OnOk, MatchOption, [], length, position, slice_index_or};
 ghost use Rattle.std.specs.Str.{bytes_eq};
 ghost use Rattle.sap_text.specs.Names.{is_word, is_among, design_keywords};
-ghost use Rattle.sap_lattice.specs.Rules.{BadCount, BadLevel, IsFirst, FirstBroken, KeepsNames};
+ghost use Rattle.sap_lattice.specs.Rules.{BadLevel, IsFirst, FirstBroken, KeepsNames};
 ghost use Rattle.sap_lattice.specs.declared.pair.Pair.{Pair as PairOfNames};
 
 use crate::fault::LatFault;
 use crate::name::{Name, is_keyword, is_word};
-use crate::pair::Pair;
 use crate::{MOST_LEVELS, MOST_NAME_BYTES};
 
 /// The place of a name among the names.

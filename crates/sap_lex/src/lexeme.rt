@@ -4,7 +4,7 @@ ghost use Rattle.std.specs.Prelude.{◌≡◌, ◌≤◌, ◌<◌, ◌+◌, IfOk
 ghost use Rattle.sap_lex.specs.Lexemes.{clings, lexeme_of, name_at, number_at, sign_at, sized_at, sized_in};
 ghost use Rattle.sap_lex.specs.Lexing.{IsWithin};
 ghost use Rattle.sap_lex.specs.Spelling.{command_word, declaration_word, expression_word, pair_sign, sign_of, single_sign, word_of};
-ghost use Rattle.sap_text.specs.Names.{is_initial, is_inner};
+ghost use Rattle.sap_text.specs.Names.{is_initial};
 ghost use Rattle.sap_text.specs.Runs.{is_in};
 
 use crate::token::{Kind, Sign};

@@ -1,6 +1,6 @@
 //! Linked designs: systems of designs that are clocked together, their composite runs, and what holds of these.
 //!
-//! Each law stands on an empty function, whose clauses a caller in another crate has by calling it.
+//! The laws stand on functions that do nothing, whose clauses a caller in another crate has by calling them.
 #![tactic(auto)]
 
 pub mod designs;

@@ -1,6 +1,6 @@
 //! The designs of a system's parts, added one after another, and then the module of all.
 
-ghost use Rattle.std.specs.Prelude.{◌≡◌, ◌≢◌, ◌⊎◌, ◌<◌, ◌≤◌, [], length, map, IfErr, IfOk, IsErrOf, IsOkUnless, OnErr, OnOk};
+ghost use Rattle.std.specs.Prelude.{◌≡◌, ◌≢◌, ◌⊎◌, ◌<◌, ◌≤◌, [], length, IfErr, IfOk, IsErrOf, IsOkUnless, OnErr, OnOk};
 ghost use Rattle.sap_check.specs.Checked.{levels_in, tree_in};
 ghost use Rattle.sap_system.specs.Wires.{FirstLinkFault, KeepsWires};
 ghost use Rattle.sap_system.specs.declared.link_fault.LinkFault.{LinkFault as AnyFault};
@@ -62,7 +62,7 @@ impl<'a> Linker<'a> {
         }
     }
 
-    /// Adds the next part: its design, which is one over the levels of the system, and a netlist that stands for it.
+    /// Adds the next part: its design, which is one over the levels of the system, and a netlist that stands for it and starts as it does.
     pub fn add(&mut self, checked: &'a Checked, netlist: &'a Netlist) -> Result<(), AllocError>
         requires next { length self.old.parts < length self.old.system.parts }
         requires levels { levels_in checked.now ≡ self.old.levels }

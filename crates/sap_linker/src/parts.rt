@@ -4,7 +4,7 @@ use sap_check::Checked;
 use sap_net::netlist::Netlist;
 use sap_text::name::Name;
 
-/// A part's name, its design and a netlist that stands for the design.
+/// A part's name, its design and a netlist that stands for the design and starts as it does.
 #[derive(Clone, Copy, Drop)]
 pub struct LinkedPart<'a> {
     pub name: &'a Name,
@@ -12,7 +12,7 @@ pub struct LinkedPart<'a> {
     pub netlist: &'a Netlist,
 }
 
-/// The design of a part, and a netlist that stands for it.
+/// The design of a part, and a netlist that stands for it and starts as it does.
 #[derive(Clone, Copy, Drop)]
 pub struct AddedPart<'a> {
     pub checked: &'a Checked,

@@ -1,6 +1,6 @@
 //! Commands with the numbers of their check sites, and with what hangs on them.
 
-ghost use Rattle.std.specs.Prelude.{◌≡◌, ◌+◌, ◌++◌, ◌<◌, ◌^◌, IfOk, None, OnOk, Some, length};
+ghost use Rattle.std.specs.Prelude.{◌≡◌, ◌+◌, ◌<◌, ◌^◌, IfOk, None, OnOk, Some, length};
 ghost use Rattle.sap_meaning.specs.Program as meaning;
 ghost use Rattle.sap_program.specs.Hangs.{flags};
 ghost use Rattle.sap_resolve.specs.Surroundings.{surroundings_of, rows_of};

@@ -1,7 +1,6 @@
 //! Expressions with numbers for names and a width for each number.
 
 ghost use Rattle.std.specs.Prelude.{◌≡◌, IfOk};
-ghost use Rattle.sap_maps.specs.Term as term;
 ghost use Rattle.sap_resolved.specs.Terms as terms;
 ghost use Rattle.sap_program.specs.Views.{term_of};
 ghost use Rattle.sap_tree.specs.Trees.{expression_of, expressions_of};

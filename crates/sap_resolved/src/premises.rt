@@ -1,6 +1,6 @@
 //! The program of a well-formed design has all that the laws of the labelled meaning ask for.
 //!
-//! The law stands on an empty function, whose clauses a caller in another crate has by calling it.
+//! The laws stand on functions that do nothing, whose clauses a caller in another crate has by calling them.
 
 ghost use Rattle.sap_resolved.specs.Premises.Premises.{ProgramsAreFine, ListsAreExact, SitesRise};
 

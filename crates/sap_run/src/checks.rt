@@ -92,7 +92,7 @@ fn cell_guard(environment: &Environment<'_>, store: &Store, memory: usize, index
     }
 }
 
-/// The level of what is overwritten, and of whether.
+/// The guard of a step: the level of what it overwrites, and of what decides that.
 pub(crate) fn guard(
     environment: &Environment<'_>,
     at: &Home<'_>,

@@ -119,7 +119,7 @@ fn retag(
     put_level(environment, store, entity, level);
 }
 
-/// The number of a cell that gets a level: 0 where the level falls.
+/// The number of a cell that gets a level: 0 where its own isn't at or below that one.
 fn kept(environment: &Environment<'_>, cell: Cell, level: Level) -> u64
     ensures { result ≡ (if (order_of environment.now.lattice.now).le cell.level level then cell.number else 0) }
 {

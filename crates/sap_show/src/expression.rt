@@ -1,7 +1,7 @@
 //! Expressions and tag expressions.
 
-ghost use Rattle.std.specs.Prelude.{◌≡◌, ◌++◌, ◌+◌, OnOk, codes};
-ghost use Rattle.sap_show.specs.Canonical.{unary_text, binary_text, operand_text, expression_text, parts_text, more_parts_text, tag_text, tags_text, more_tags_text};
+ghost use Rattle.std.specs.Prelude.{◌≡◌, ◌++◌, ◌+◌, OnOk};
+ghost use Rattle.sap_show.specs.Canonical.{operand_text, expression_text, parts_text, more_parts_text, tag_text, tags_text, more_tags_text};
 ghost use Rattle.sap_tree.specs.Precedence as spec;
 ghost use Rattle.sap_tree.specs.Trees.{expression_of, expressions_of, tag_of, tags_of};
 

@@ -1,9 +1,9 @@
 //! Rows in an array of bytes. Each call writes at a place and tells where the text ends, or stops where there is little room.
 
-ghost use Rattle.std.specs.Prelude.{◌≡◌, ◌<◌, ◌≤◌, ◌+◌, ◌/◌, ◌%◌, ◌++◌, [], ◌∷◌, ℕ, List, IfSome, codes, length, take};
+ghost use Rattle.std.specs.Prelude.{◌≡◌, ◌<◌, ◌≤◌, ◌+◌, ◌/◌, ◌%◌, ◌++◌, [], ◌∷◌, ℕ, List, IfSome, length, take};
 ghost use Rattle.std.specs.Fmt.{decimal};
 ghost use Rattle.sap_stim.specs.declared.flat.TheConstants.{MOST_SHOWN};
-ghost use Rattle.sap_stim.specs.Rows.{AreLevelTexts, all_shown, at_level, row_text, shown, shown_of, shown_text, label_text};
+ghost use Rattle.sap_stim.specs.Rows.{AreLevelTexts, all_shown, at_level, row_text, shown, shown_of, shown_text};
 
 use crate::head::RowHead;
 use crate::label::RowLabel;

@@ -1,7 +1,6 @@
 //! Rows.
 
 ghost use Rattle.std.specs.Prelude.{◌≡◌, ◌+◌, ◌<◌, ◌≤◌, ◌++◌, IfOk, IfSome, OnErr, OnOk, length, vec_capacity, Option, option_map};
-ghost use Rattle.std.specs.Fmt.{decimal};
 ghost use Rattle.sap_lattice.specs.Closure.{name_at};
 ghost use Rattle.sap_stim.specs.Rows.{AreLevelTexts, at_level, row_room, row_text, shown, shown_of, shown_text, level_coded, level_text, all_shown};
 

@@ -3,7 +3,6 @@
 ghost use Rattle.std.specs.Prelude.{◌≡◌, ◌≤◌, ◌^◌, nat_lt};
 ghost use Rattle.std.specs.Char.{is_ascii_digit};
 ghost use Rattle.std.specs.List.{list_all};
-ghost use Rattle.std.specs.Str.Parse.{digits_value};
 ghost use Rattle.sap_lattice.specs.Levels.{level_named};
 ghost use Rattle.sap_stim.specs.Line.{value_of, tagged_of, plain_of, field_of, IsSized};
 

@@ -1,6 +1,6 @@
 //! A memory as a cycle began, or as the next one begins.
 
-ghost use Rattle.std.specs.Prelude.{◌≡◌, ◌<◌, length, replicate, slice_set, IfOk};
+ghost use Rattle.std.specs.Prelude.{◌≡◌, ◌<◌, length, replicate, IfOk};
 ghost use Rattle.sap_store.specs.Half.{cell_at, no_cell, with_level, with_number};
 
 use crate::cell::Cell;

@@ -1,6 +1,6 @@
 // The parts and the wires that a document lists.
 
-ghost use Rattle.std.specs.Prelude.{◌≡◌, Some, IfOk, MatchOption, option_map, option_and_then};
+ghost use Rattle.std.specs.Prelude.{◌≡◌, Some, IfOk, MatchOption, option_map};
 ghost use Rattle.toml.specs.Data.{as_str};
 ghost use Rattle.toml.specs.View.{view, table_view, items_view, array_view};
 ghost use Rattle.sap_latfile.specs.Document.{texts_of, array_at};

@@ -1,6 +1,6 @@
 // Reading a system file.
 
-ghost use Rattle.std.specs.Prelude.{◌≡◌, ◌≢◌, ◌⊎◌, IfErr, IfOk, IsErrOf, IsOkUnless};
+ghost use Rattle.std.specs.Prelude.{◌≢◌, ◌⊎◌, IfErr, IfOk, IsErrOf, IsOkUnless};
 ghost use Rattle.toml.specs.View.{table_view};
 ghost use Rattle.sap_latfile.specs.LatticeFile.{IsDocument};
 ghost use Rattle.sap_system.specs.Listing.{Listing};

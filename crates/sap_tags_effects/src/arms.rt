@@ -1,6 +1,6 @@
 //! Which block of a `case` runs.
 
-ghost use Rattle.std.specs.Prelude.{◌≡◌, ◌+◌, ◌<◌, ◌≤◌, ◌^◌, OnOk, length, map};
+ghost use Rattle.std.specs.Prelude.{◌≡◌, ◌<◌, OnOk, map};
 ghost use Rattle.sap_meaning.specs.Program as program;
 ghost use Rattle.sap_ir.specs.Plain.Nested.{stop};
 ghost use Rattle.sap_ir.specs.Plain.Views.{body_of, follow};

@@ -118,7 +118,7 @@ fn cell_guard(
     lub(alloc, picked, cell)
 }
 
-/// The level of what is overwritten, and of whether.
+/// The guard of a step: the level of what it overwrites, and of what decides that.
 pub fn guard_of(
     alloc: Global,
     setting: &Setting<'_>,

@@ -1,4 +1,4 @@
-//! The names, terms and tests of a plain program, as code: numbers, levels, guards and tests of a design's program as data.
+//! The names and terms of a plain program, as code: the numbers and levels of a design's program as data.
 #![tactic(auto)]
 
 pub mod calcs;

@@ -1,5 +1,5 @@
 -- What is declared for the first entities of a program.
-use Rattle.sap_lemmas.proofs.Common.{◌≡◌, ℕ, zero, suc, ◌+◌, ◌^◌, ◌<◌, ◌≤◌, nat_lt, List, [], ◌∷◌, ◌++◌, length, take, Bool, true, false, refl, sym, ap, ◌∙◌, subst, arith, add-one, append_assoc, if◌then◌else◌, take_all, append-nil, common_steps, pow-le-pow_right, length_map}
+use Rattle.sap_lemmas.proofs.Common.{◌≡◌, ℕ, zero, suc, ◌+◌, ◌<◌, ◌≤◌, nat_lt, List, [], ◌∷◌, ◌++◌, length, take, Bool, true, false, refl, sym, ap, ◌∙◌, subst, arith, add-one, append_assoc, if◌then◌else◌, take_all, append-nil, common_steps, length_map}
 use Rattle.sap_meaning.proofs.ProgramLemmas.{memory_no_state, register_no_state}
 use Rattle.sap_ir.specs.declared.guarded.Var.{Var}
 use Rattle.sap_ir.specs.declared.guarded.MemoryVariable.{MemoryVariable}
@@ -117,9 +117,3 @@ module _ (p : Program) (ranged : RangedProgram p) (x : ℕ) where
 
   pub memory_width : is_memory p.world x ≡ true → IsWidth (width p.world x)
   memory_width h = ranged.widths x (memory_no_state (program.entity p.world x).kind h)
-
-  pub memory_depth : is_memory p.world x ≡ true → depth p.world x ≤ 2 ^ 12
-  memory_depth h =
-      let r = ranged.depths x h in
-      let b : 2 ^ r.0 ≤ 2 ^ 12 = pow-le-pow_right {n = 2} (omega arith) {i = r.0} {j = 12} r.1.1 in
-      omega (arith, b, r.1.2)

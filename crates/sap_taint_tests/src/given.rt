@@ -1,7 +1,6 @@
 //! What several tests are given.
 
 use sap_latfile::read_lattice;
-use sap_lattice::lattice::Lattice;
 use sap_net::netlist::Netlist;
 use sap_taint_pass::fault::TaintFault;
 use sap_taint_pass::taint::taint;

@@ -1,5 +1,5 @@
 -- The wires of check sites and their places.
-use Rattle.sap_lemmas.proofs.Common.{◌≡◌, ◌≢◌, ℕ, zero, suc, ◌+◌, ◌-◌, ◌<◌, List, [], ◌∷◌, ◌++◌, Option, Some, None, length, map, bytes_eq, get_or, length-append, refl, sym, ◌∙◌, subst, arith, inl, inr, AllByRecursion, cases_Bool, cases_lt, equal_of_bytes_eq}
+use Rattle.sap_lemmas.proofs.Common.{◌≡◌, ◌≢◌, ℕ, zero, suc, ◌+◌, ◌<◌, List, [], ◌∷◌, ◌++◌, Option, Some, None, length, map, bytes_eq, get_or, length-append, refl, sym, ◌∙◌, subst, arith, inl, inr, AllByRecursion, cases_Bool, cases_lt, equal_of_bytes_eq}
 use Rattle.sap_tree.specs.Syntax.{DesignTree}
 use Rattle.sap_lattice.specs.Levels.{Levels}
 use Rattle.sap_check.specs.Sites.{sites_of}

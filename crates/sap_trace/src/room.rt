@@ -56,8 +56,8 @@ fn most_beside_level(checked: &Checked) -> usize
     most
 }
 
-/// For how many bytes a buffer needs room to take the line of any check site of a design: the fewest. There is
-/// no answer where they are 2^64 or more, so that there can't be such a buffer.
+/// For how many bytes a buffer has room at least that takes the line of any check site of a design, with the name of any
+/// level, or with any number where that is the code of none. There is no answer where they are 2^64 or more.
 pub fn site_room(checked: &Checked) -> Option<usize>
     ensures holds { IfSome result (HoldsLine (levels_in checked.now) (tree_in checked.now)) }
     ensures least { IfSome result (λ room. (other : ℕ) → HoldsLine (levels_in checked.now) (tree_in checked.now) other → room ≤ other) }
@@ -73,8 +73,8 @@ pub fn site_room(checked: &Checked) -> Option<usize>
     Some(room)
 }
 
-/// For how many bytes a buffer needs room to take the lines of any cycle of a design: the fewest. There is no
-/// answer where they are 2^64 or more, so that there can't be such a buffer.
+/// For how many bytes a buffer has room at least that takes as many such lines as a design has check sites, and so those of
+/// any cycle. There is no answer where they are 2^64 or more.
 pub fn cycle_room(checked: &Checked) -> Option<usize>
     ensures holds { IfSome result (HoldsCycle (levels_in checked.now) (tree_in checked.now)) }
     ensures least { IfSome result (λ room. (other : ℕ) → HoldsCycle (levels_in checked.now) (tree_in checked.now) other → room ≤ other) }

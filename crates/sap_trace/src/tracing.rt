@@ -92,7 +92,7 @@ impl Tracing {
         &self.fields
     }
 
-    /// For how many bytes a buffer needs room to take the lines of any cycle: `new` makes it the fewest.
+    /// For how many bytes a buffer is enough that takes the lines of any cycle: `new` makes it that of `cycle_room`.
     pub fn room(&self) -> usize
         ensures { result ≡ self.now.room }
     {

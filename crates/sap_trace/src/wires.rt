@@ -1,6 +1,6 @@
 //! The wires of check sites.
 
-ghost use Rattle.std.specs.Prelude.{◌≡◌, ◌≢◌, ◌<◌, None, IfOk, length};
+ghost use Rattle.std.specs.Prelude.{◌≢◌, ◌<◌, None, IfOk, length};
 ghost use Rattle.sap_maps.specs.Scope.{find};
 ghost use Rattle.sap_net.specs.IsNetlist.{readable};
 ghost use Rattle.sap_cycle.specs.Running.{IsPlaceOf, value_names};

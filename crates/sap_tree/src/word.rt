@@ -31,7 +31,7 @@ pub enum Word {
     Two,
 }
 
-/// The keywords of every text are the words that every version has, as they are spelled.
+/// The keywords of version 1 are the words that every version has, as they are spelled.
 pub fn words_are_keywords()
     ensures { keywords version.One ≡ map word_text first_words }
 {}

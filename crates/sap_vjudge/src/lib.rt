@@ -1,7 +1,7 @@
 //! The faults of a module, V3 to V7, in the tree of its text.
 //!
 //! `judge` goes down the ports and items once, with a table of what each name is declared as and whether it is set, and
-//! once more over the declarations for what is never set. It answers the first fault by place, then by code.
+//! once more over the declarations for what lacks what sets it. It answers the first fault by place, then by code.
 #![tactic(auto)]
 
 pub mod code;

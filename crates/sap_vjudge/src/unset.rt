@@ -1,6 +1,6 @@
 //! V6: declarations that lack an item that sets them.
 
-ghost use Rattle.std.specs.Prelude.{◌≡◌, ◌&&◌, not, map};
+ghost use Rattle.std.specs.Prelude.{◌≡◌, ◌&&◌, not};
 ghost use Rattle.sap_vtext.specs.Faults as faults;
 ghost use Rattle.sap_vtext.specs.Names.{item_declarations, port_declaration};
 ghost use Rattle.sap_vjudge.specs.Best.{best_of};

@@ -2,7 +2,7 @@
 
 ghost use Rattle.std.specs.Prelude.{◌≡◌, flat_map, option_map};
 ghost use Rattle.sap_vtext.specs.Faults as faults;
-ghost use Rattle.sap_vtext.specs.Faults.{Use, as_value, operand_uses, right_uses, uses};
+ghost use Rattle.sap_vtext.specs.Faults.{operand_uses, right_uses, uses};
 ghost use Rattle.sap_vjudge.specs.Best.{best_of};
 ghost use Rattle.sap_vjudge.specs.Listed as spec;
 ghost use Rattle.sap_vjudge.specs.Listed.{shape_faults, uses_faults, used};

@@ -3,7 +3,6 @@
 ghost use Rattle.std.specs.Prelude.{◌≡◌, ◌+◌, ◌≤◌, ◌^◌, IfSome, option_map};
 ghost use Rattle.sap_vtext.specs.Names as names;
 ghost use Rattle.sap_vtext.specs.Widths as widths;
-ghost use Rattle.sap_vjudge.specs.Listed as spec;
 ghost use Rattle.sap_vjudge.specs.Shapes.{shape_of};
 ghost use Rattle.sap_vjudge.specs.Tables.{known_of};
 ghost use Rattle.sap_vparse.specs.Views.{constant_of, operand_of, operands_of};

@@ -1,7 +1,7 @@
 //! What stands at the front of a text.
 
-ghost use Rattle.std.specs.Prelude.{◌≡◌, ◌≤◌, ◌<◌, ◌+◌, IfOk, length, slice_index, take, true};
-ghost use Rattle.sap_text.specs.Names.{is_initial, is_inner};
+ghost use Rattle.std.specs.Prelude.{◌≡◌, ◌≤◌, ◌<◌, ◌+◌, IfOk, length, slice_index, true};
+ghost use Rattle.sap_text.specs.Names.{is_initial};
 ghost use Rattle.sap_text.specs.Runs.{is_in};
 ghost use Rattle.sap_vlex.specs.Lexemes.{constant_at, inner_word, is_constant, item_word, lexeme_of, name_at, number_at, pair_sign, sign_at, single_at, single_sign, word_in};
 ghost use Rattle.sap_vlex.specs.Lexing.{IsWithin};

@@ -9,7 +9,7 @@ use Rattle.sap_vtext.specs.Items.{Mention, Number, Operand, Right, Item, Port, D
 use Rattle.sap_vtext.specs.Items as item
 use Rattle.sap_vtext.specs.Lexing.{Lexed}
 use Rattle.sap_vtext.specs.Tokens as t
-use Rattle.sap_vprint.specs.Text.{Piece, space, line, one, word, sign, name, number, operand, text_of, range_pieces, part_pieces, right_pieces, item_pieces, direction_pieces, port_pieces, file_pieces, end_of_ports, end_of_file}
+use Rattle.sap_vprint.specs.Text.{Piece, space, line, word, sign, name, number, operand, text_of, range_pieces, part_pieces, right_pieces, item_pieces, direction_pieces, port_pieces, file_pieces, end_of_ports, end_of_file}
 use Rattle.sap_vprint.proofs.Spelled.{IsName, IsWritable, IsSpelled}
 use Rattle.sap_vprint.proofs.Spaced.{is_spaced, follows, may_follow, ends_run, AreSpelled, tokens_at, pieces_lexed}
 use Rattle.sap_vprint.proofs.ReadBack.{HasParts, IsWhole}

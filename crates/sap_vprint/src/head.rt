@@ -1,6 +1,6 @@
 //! Ports and declarations.
 
-ghost use Rattle.std.specs.Prelude.{◌≡◌, ◌++◌, ◌∷◌, [], ◌-◌, OnOk, codes, flat_map, decimal};
+ghost use Rattle.std.specs.Prelude.{◌≡◌, ◌++◌, [], ◌-◌, OnOk, codes, flat_map, decimal};
 ghost use Rattle.sap_maps.specs.Scope.{find};
 ghost use Rattle.sap_vprint.specs.Lookup.{shape_found};
 ghost use Rattle.sap_vprint.specs.Printed.{entities, direction_text, port_of, printed_port, declared_items, integer_of};

@@ -1,6 +1,6 @@
 //! Looks up what a netlist has under a name.
 
-ghost use Rattle.std.specs.Prelude.{◌≡◌, ◌<◌, ◌≤◌, ℕ, List, length, map, slice_index_or, IfSome, IfNone, IfOk, Some, false};
+ghost use Rattle.std.specs.Prelude.{◌≡◌, ◌<◌, ◌≤◌, ℕ, List, length, slice_index_or, IfSome, IfNone, IfOk, Some, false};
 ghost use Rattle.std.specs.List.{HoldsAt};
 ghost use Rattle.sap_maps.specs.Scope.{find};
 ghost use Rattle.sap_net.specs.Names.{is_among};

@@ -1,6 +1,6 @@
 //! Numbers, operands and right sides.
 
-ghost use Rattle.std.specs.Prelude.{◌≡◌, ◌-◌, ◌++◌, ◌∷◌, [], OnOk, codes, decimal, flat_map, map};
+ghost use Rattle.std.specs.Prelude.{◌≡◌, ◌-◌, ◌++◌, OnOk, codes, decimal, flat_map, map};
 ghost use Rattle.sap_vprint.specs.Printed.{operand_of, right_of};
 ghost use Rattle.sap_vprint.specs.Text.{text_of, operand_text, unary_text, binary_text, part_pieces, parts_pieces, range_pieces, right_pieces};
 

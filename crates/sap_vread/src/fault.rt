@@ -23,7 +23,7 @@ pub enum ModCode {
     V4,
     /// Numbers and widths.
     V5,
-    /// Declared and never set.
+    /// A wire that is never assigned, or a register or memory that lacks its `initial` or its `always`.
     V6,
     /// Memories, and names used as another kind.
     V7,

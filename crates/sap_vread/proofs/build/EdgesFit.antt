@@ -6,7 +6,7 @@ use Rattle.sap_net.specs.Prelude.{IsOperand, IsRegister, IsMemory, readable}
 use Rattle.sap_vtext.specs.Items.{Mention, Operand, Item, File}
 use Rattle.sap_vtext.specs.Items as item
 use Rattle.sap_text.specs.Best.{StandsIn}
-use Rattle.sap_vtext.specs.Names.{Shape, input, wire, register, memory, Declaration, declarations, shape_in, shape_above, Setting, initial, always, target_of, is_target, is_set, known_above}
+use Rattle.sap_vtext.specs.Names.{Shape, input, register, memory, Declaration, declarations, shape_in, shape_above, Setting, initial, always, target_of, is_target, is_set, known_above}
 use Rattle.sap_vtext.specs.Widths.{shape_width, operand_width, constant_width, memory_width, register_width, constant_fits}
 use Rattle.sap_vtext.specs.Faults.{Use, as_register, as_memory, suits, needs, uses, operand_uses, operand_constants, IsFaultless}
 use Rattle.sap_vtext.specs.Modules.{netlist_of, net_operand, first_of, first_given, when, initial_number, next_operand, cell_write, Write, nothing, shape_registers, shape_memories}
