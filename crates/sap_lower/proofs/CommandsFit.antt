@@ -7,13 +7,15 @@ use Rattle.sap_net.specs.declared.parts.Operand.TheVariants.{Constant}
 use Rattle.sap_net.specs.declared.parts.Right.TheVariants.{Choose}
 use Rattle.sap_ir.specs.Prelude.{Action, set, put, Command, TermFine}
 use Rattle.sap_lower.specs.declared.parts.WritePort.{WritePort}
+use Rattle.sap_lower.specs.Facts.{facts_of}
 use Rattle.sap_lower.specs.Lowering.{nothing, present, plus, low}
 use Rattle.sap_share.specs.Tables.{replaced}
 use Rattle.sap_lower.specs.declared.lowering.Lowering.{Lowering}
-use Rattle.sap_lower.specs.Commands.{no_port, port_of, low_set, low_put, low_action, low_command, low_commands}
+use Rattle.sap_lower.specs.Commands.{entries_plain, entries_under, no_port, port_of, low_set, low_put, low_action, low_command, low_commands}
 use Rattle.sap_lower.proofs.Stands.{HasEntries, replaced_same, replaced_other, replaced_has}
 use Rattle.sap_lower.proofs.Standing.{ActionOk, CommandOk}
 use Rattle.sap_lower.proofs.Adding.{commands_added}
+use Rattle.sap_lower.proofs.SeenFits.{env_seen_fits}
 use Rattle.sap_lower.proofs.Fits.{IsLonger, longer, Fits, NoHelpers, EnvFits, env_grows, Lowered, plus_at, plus_long, low_long, low_fits}
 
 abbrev pub AllWide : Scope → Type 0
@@ -61,16 +63,20 @@ set_fits : (ms : Shapes) (sc vars : Scope) → NoHelpers ms → AllWide vars →
     → Lowered ms sc s.wires (low_set ms s c n t).wires (low_set ms s c n t).part u
 set_fits ms sc vars apart wide s c n t u found fc ft k l =
     let es = s.entries in
-    let z = low ms es c s.wires in
-    let x = low ms es t z.wires in
+    let plain = entries_plain es in
+    let z = low ms plain c s.wires in
+    let seen = entries_under z es in
+    let x = low ms seen t z.wires in
     let o = present es n in
     let r = Choose z.part.operand x.part.operand o.operand in
     let e = plus_long x.wires o.width r in
-    let lx = low_long ms es t z.wires in
+    let lx = low_long ms seen t z.wires in
     let iu = wide n u found in
-    let c' = low_fits ms sc vars es apart 1 c one_wide fc s.wires k.env k.fits (omega (arith, e, lx)) in
+    let ep = env_seen_fits ms (readable_after sc s.wires) [] tt [] vars es k.env in
+    let c' = low_fits ms sc vars plain apart 1 c one_wide fc s.wires ep k.fits (omega (arith, e, lx)) in
     let ez = env_grows (readable_after sc s.wires) (readable_after sc z.wires) vars es c'.grows k.env in
-    let t' = low_fits ms sc vars es apart u t iu ft z.wires ez c'.fits (omega (arith, e)) in
+    let eu = env_seen_fits ms sc z.wires c'.fits.wires (facts_of z.wires z.part.operand) vars es ez in
+    let t' = low_fits ms sc vars seen apart u t iu ft z.wires eu c'.fits (omega (arith, e)) in
     let ex = env_grows (readable_after sc z.wires) (readable_after sc x.wires) vars es t'.grows ez in
     let old = ex n u found in
     let oc = operand_grows (readable_after sc z.wires) (readable_after sc x.wires) t'.grows 1 z.part.operand c'.operand in
@@ -124,9 +130,11 @@ put_state_fits ms sc vars apart wide s c m i t w b ib found fc fi ft k len =
     let es = s.entries in
     let p = port_of s.ports m in
     let pf = k.ports m (w, 2 ^ b) found in
-    let z = low ms es c s.wires in
-    let y = low ms es i z.wires in
-    let x = low ms es t y.wires in
+    let plain = entries_plain es in
+    let z = low ms plain c s.wires in
+    let seen = entries_under z es in
+    let y = low ms seen i z.wires in
+    let x = low ms seen t y.wires in
     let re = Choose z.part.operand (Constant 1 1) p.enable in
     let e = plus x.wires 1 re in
     let rj = Choose z.part.operand y.part.operand p.index in
@@ -136,8 +144,8 @@ put_state_fits ms sc vars apart wide s c m i t w b ib found fc fi ft k len =
     let ll = plus_long j.wires p.width rl in
     let lj = plus_long e.wires p.bits rj in
     let le = plus_long x.wires 1 re in
-    let lx = low_long ms es t y.wires in
-    let ly = low_long ms es i z.wires in
+    let lx = low_long ms seen t y.wires in
+    let ly = low_long ms seen i z.wires in
     let iw = wide m (w, 2 ^ b) found in
     let bits : b ≡ p.bits = same_power b p.bits pf.deep.2 in
     let s0 = readable_after sc s.wires in
@@ -147,11 +155,13 @@ put_state_fits ms sc vars apart wide s c m i t w b ib found fc fi ft k len =
     let se = readable_after sc e.wires in
     let sj = readable_after sc j.wires in
     let sl = readable_after sc l.wires in
-    let c' = low_fits ms sc vars es apart 1 c one_wide fc s.wires k.env k.fits (omega (arith, ll, lj, le, lx, ly)) in
+    let ep = env_seen_fits ms s0 [] tt [] vars es k.env in
+    let c' = low_fits ms sc vars plain apart 1 c one_wide fc s.wires ep k.fits (omega (arith, ll, lj, le, lx, ly)) in
     let ez = env_grows s0 sz vars es c'.grows k.env in
-    let i' = low_fits ms sc vars es apart b i ib fi z.wires ez c'.fits (omega (arith, ll, lj, le, lx)) in
-    let ey = env_grows sz sy vars es i'.grows ez in
-    let t' = low_fits ms sc vars es apart w t iw ft y.wires ey i'.fits (omega (arith, ll, lj, le)) in
+    let eu = env_seen_fits ms sc z.wires c'.fits.wires (facts_of z.wires z.part.operand) vars es ez in
+    let i' = low_fits ms sc vars seen apart b i ib fi z.wires eu c'.fits (omega (arith, ll, lj, le, lx)) in
+    let ey = env_grows sz sy vars seen i'.grows eu in
+    let t' = low_fits ms sc vars seen apart w t iw ft y.wires ey i'.fits (omega (arith, ll, lj, le)) in
     let g0x : Grows s0 sx = λ n q h. t'.grows n q (i'.grows n q (c'.grows n q h)) in
     let px = port_grows s0 sx g0x p w (2 ^ b) pf in
     let oc = operand_grows sy sx t'.grows 1 z.part.operand (operand_grows sz sy i'.grows 1 z.part.operand c'.operand) in

@@ -9,9 +9,10 @@ use Rattle.sap_ir.specs.Prelude.{Going, value_in, set_cell, TermFine}
 use Rattle.sap_lower.specs.declared.parts.Part.{Part}
 use Rattle.sap_lower.specs.declared.parts.WritePort.{WritePort}
 use Rattle.sap_lower.specs.Lowering.{plus, low}
-use Rattle.sap_lower.specs.Commands.{low_put}
+use Rattle.sap_lower.specs.Commands.{entries_plain, entries_under, low_put}
 use Rattle.sap_lower.proofs.Shared.{Gives}
 use Rattle.sap_lower.proofs.Means.{Around, plus_front, plus_shows, low_front, low_stands}
+use Rattle.sap_lower.proofs.Under.{around_plain, around_under}
 
 -- what a port says of the memory's next contents; `done`: whether it was written so far
 pub record PortIs (v : Valuation) (p : WritePort) (m : Name) (g : Going) (done : Bool) : Type 0 where
@@ -48,8 +49,9 @@ pub now_of : (off : Bool) (g : Going) (m : Name) (i t : ℕ) → (if off then g 
 now_of true g m i t = refl
 now_of false g m i t = refl
 
-merged : (c d old new x : ℕ) → c ≡ d → new ≡ x → (if c == 0 then old else new) ≡ (if d == 0 then old else x)
-merged c d old new x e f = cc
+merged : (c d old new x : ℕ) → c ≡ d → ((d == 0) ≡ false → new ≡ x) → (if c == 0 then old else new) ≡ (if d == 0 then old else x)
+merged c d old new x e f =
+    elim (cases_Bool (d == 0)) [ inl t ↦ rw (e, t) refl | inr n ↦ rw (e, n) (f n) ]
 
 pub put_is : (ms : Shapes) (vars : Scope) (vw widths : Name → ℕ) (v : Valuation) (es : List (Name × Part)) (g : Going)
     → Around ms vars vw widths v es g.now.value g.now.cell → (p : WritePort) (m : Name) (done : Bool) → PortIs v p m g done
@@ -61,28 +63,35 @@ pub put_is : (ms : Shapes) (vars : Scope) (vw widths : Name → ℕ) (v : Valuat
           set_cell g.next m (value_in vw g i) (value_in vw g t);
     }) (if value_in vw g c == 0 then done else true)
 put_is ms vars vw widths v es g k p m done is c i t b w fc fi ft once ws h =
-    let z = low ms es c ws in
-    let y = low ms es i z.wires in
-    let x = low ms es t y.wires in
+    let plain = entries_plain es in
+    let z = low ms plain c ws in
+    let seen = entries_under z es in
+    let y = low ms seen i z.wires in
+    let x = low ms seen t y.wires in
     let e = plus x.wires 1 (Choose z.part.operand (Constant 1 1) p.enable) in
     let j = plus e.wires p.bits (Choose z.part.operand y.part.operand p.index) in
     let l = plus j.wires p.width (Choose z.part.operand x.part.operand p.value) in
     let hj = plus_front widths v j.wires p.width (Choose z.part.operand x.part.operand p.value) h in
     let he = plus_front widths v e.wires p.bits (Choose z.part.operand y.part.operand p.index) hj in
     let hx = plus_front widths v x.wires 1 (Choose z.part.operand (Constant 1 1) p.enable) he in
-    let hy = low_front widths v ms es t y.wires hx in
-    let hz = low_front widths v ms es i z.wires hy in
-    let sz = low_stands ms vars vw widths v es g.now.value g.now.cell k 1 c fc ws hz in
-    let sy = low_stands ms vars vw widths v es g.now.value g.now.cell k b i fi z.wires hy in
-    let sx = low_stands ms vars vw widths v es g.now.value g.now.cell k w t ft y.wires hx in
+    let hy = low_front widths v ms seen t y.wires hx in
+    let hz = low_front widths v ms seen i z.wires hy in
+    let kp = around_plain ms vars vw widths v es g.now.value g.now.cell k in
+    let sz = low_stands ms vars vw widths v plain g.now.value g.now.cell kp 1 c fc ws hz in
+    let ku = λ (on : (value_in vw g c == 0) ≡ false).
+    around_under ms vars vw widths v es g.now.value g.now.cell k z hz (value_in vw g c) sz.shows.value on in
+    let vi = λ (on : (value_in vw g c == 0) ≡ false).
+    (low_stands ms vars vw widths v seen g.now.value g.now.cell (ku on) b i fi z.wires hy).shows.value in
+    let vt = λ (on : (value_in vw g c == 0) ≡ false).
+    (low_stands ms vars vw widths v seen g.now.value g.now.cell (ku on) w t ft y.wires hx).shows.value in
     let pl = plus_shows widths v j.wires p.width (Choose z.part.operand x.part.operand p.value) h in
     let pj = plus_shows widths v e.wires p.bits (Choose z.part.operand y.part.operand p.index) hj in
     let pe = plus_shows widths v x.wires 1 (Choose z.part.operand (Constant 1 1) p.enable) he in
     let off = value_in vw g c == 0 in
     let ve : operand_value v e.part.operand ≡ (if off then operand_value v p.enable else 1) =
     pe.value ∙ ap (λ (q : ℕ). if q == 0 then operand_value v p.enable else 1) sz.shows.value in
-    let vj : operand_value v j.part.operand ≡ (if off then operand_value v p.index else value_in vw g i) = pj.value ∙ merged _ _ _ _ _ sz.shows.value sy.shows.value in
-    let vl : operand_value v l.part.operand ≡ (if off then operand_value v p.value else value_in vw g t) = pl.value ∙ merged _ _ _ _ _ sz.shows.value sx.shows.value in
+    let vj : operand_value v j.part.operand ≡ (if off then operand_value v p.index else value_in vw g i) = pj.value ∙ merged _ _ _ _ _ sz.shows.value vi in
+    let vl : operand_value v l.part.operand ≡ (if off then operand_value v p.value else value_in vw g t) = pl.value ∙ merged _ _ _ _ _ sz.shows.value vt in
     record {
       written = ap (λ (q : ℕ). q == 1) ve ∙ bit_is off (operand_value v p.enable) done is.written;
       next = λ n.

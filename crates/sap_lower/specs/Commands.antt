@@ -13,7 +13,9 @@ use Rattle.sap_share.specs.Tables.{replaced}
 use Rattle.sap_lower.specs.declared.lowering.Lowering.{Lowering}
 use Rattle.sap_lower.specs.declared.parts.Part.{Part}
 use Rattle.sap_lower.specs.declared.parts.WritePort.{WritePort}
+use Rattle.sap_lower.specs.Facts.{facts_of}
 use Rattle.sap_lower.specs.Lowering.{present, Low, plus, low}
+use Rattle.sap_lower.specs.Reads.{entries_seen}
 
 abbrev pub no_port : WritePort
 no_port = record { width = 0; bits = 0; enable = Constant 0 0; index = Constant 0 0; value = Constant 0 0 }
@@ -25,10 +27,18 @@ port_of ps m = unwrap_or (find ps m) no_port
 abbrev pub chosen : List (Name × Part) → Name → (when value : Operand) → List Wire → Low
 chosen es x c a ws = let old = present es x in plus ws old.width (Choose c a old.operand)
 
+-- what each name stands for where a gate that has these wires and this operand is 1
+abbrev pub entries_under : (gate : Low) → List (Name × Part) → List (Name × Part)
+entries_under z es = entries_seen z.wires (facts_of z.wires z.part.operand) es
+
+-- what each name stands for where nothing is known
+abbrev pub entries_plain : List (Name × Part) → List (Name × Part)
+entries_plain es = entries_seen [] [] es
+
 abbrev pub low_chosen : Shapes → List (Name × Part) → List Wire → Term Name → Name → Term Name → Low
 low_chosen ms es ws c x a =
-    let z = low ms es c ws in
-    let y = low ms es a z.wires in
+    let z = low ms (entries_plain es) c ws in
+    let y = low ms (entries_under z es) a z.wires in
     chosen es x z.part.operand y.part.operand y.wires
 
 abbrev pub low_set : Shapes → Lowering → Term Name → Name → Term Name → Low
@@ -51,9 +61,10 @@ merged_port p c i a ws =
 
 abbrev pub low_put : Shapes → List (Name × Part) → WritePort → (c i a : Term Name) → List Wire → Ported
 low_put ms es p c i a ws =
-    let z = low ms es c ws in
-    let y = low ms es i z.wires in
-    let x = low ms es a y.wires in
+    let z = low ms (entries_plain es) c ws in
+    let seen = entries_under z es in
+    let y = low ms seen i z.wires in
+    let x = low ms seen a y.wires in
     merged_port p z.part.operand y.part.operand x.part.operand x.wires
 
 -- A name stands for another part, ..
