@@ -59,7 +59,7 @@ equal_test a b h = grind (arith, nat_tests)
 other_test : (a b : ℕ) → (a == b) ≡ false → a ≡ b → ⊥
 other_test a b h e = grind (arith, nat_tests)
 
-zero_value : (v : Valuation) (o : Operand) → is_zero o ≡ true → operand_value v o ≡ 0
+pub zero_value : (v : Valuation) (o : Operand) → is_zero o ≡ true → operand_value v o ≡ 0
 zero_value v (Named x) h = absurd (cc)
 zero_value v (Constant w n) h = equal_test n 0 h
 

@@ -23,9 +23,10 @@ use Rattle.sap_lower.specs.declared.parts.WritePort.{WritePort}
 use Rattle.sap_share.specs.Keys.{key}
 use Rattle.sap_share.specs.Names.{helper}
 use Rattle.sap_share.specs.Rights.{rights}
+use Rattle.sap_lower.specs.Facts.{is_zero}
 use Rattle.sap_lower.specs.Lowering.{nothing, present, Low, shared, plus, leaves_nothing, low_two, sliced, is_outside, low_slice, cell_width, low_join, low}
 use Rattle.sap_lower.specs.declared.lowering.Lowering.{Lowering}
-use Rattle.sap_lower.specs.Commands.{entries_plain, entries_under, port_of, low_chosen, merged_port, low_put, low_action, low_command, low_commands}
+use Rattle.sap_lower.specs.Commands.{entries_plain, entries_under, port_of, taken_over, low_chosen, merged_port, low_put, low_action, low_command, low_commands}
 use Rattle.sap_lower.specs.Lowered.{first_lowering, last_lowering, out_wire, listed, unlisted, unported, picked, register_of, memory_of, registers_declared, lowered}
 use Rattle.sap_lower.proofs.Adding.{OfEach, low_added}
 use Rattle.sap_lower.proofs.Declares.{picked_names, unlisted_names}
@@ -331,13 +332,18 @@ chosen_adds ms es ws c x a =
     let r = plus_adds y.wires old.width (Choose z.part.operand y.part.operand old.operand) in
     omega (arith, p, q, r)
 
+over_adds : (first : Bool) (ws : List Wire) (w : ℕ) (c n o : Operand) → length (taken_over first ws w c n o).wires ≤ length ws + 1
+over_adds true ws w c n o = omega arith
+over_adds false ws w c n o = plus_adds ws w (Choose c n o)
+
 port_adds : (p : WritePort) (c i a : Operand) (ws : List Wire) → length (merged_port p c i a ws).wires ≤ length ws + 3
 port_adds p c i a ws =
     let e = plus ws 1 (Choose c (Constant 1 1) p.enable) in
-    let j = plus e.wires p.bits (Choose c i p.index) in
+    let first = is_zero p.enable in
+    let j = taken_over first e.wires p.bits c i p.index in
     let q = plus_adds ws 1 (Choose c (Constant 1 1) p.enable) in
-    let r = plus_adds e.wires p.bits (Choose c i p.index) in
-    let s = plus_adds j.wires p.width (Choose c a p.value) in
+    let r = over_adds first e.wires p.bits c i p.index in
+    let s = over_adds first j.wires p.width c a p.value in
     omega (arith, q, r, s)
 
 put_adds : (ms : Shapes) (es : List (Name × Part)) (p : WritePort) (c i a : Term Name) (ws : List Wire)

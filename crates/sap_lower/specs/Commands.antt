@@ -1,5 +1,5 @@
 -- The wires that assignments become, and what each name stands for after them.
-use Rattle.std.specs.Prelude.{List, [], ◌∷◌, unwrap_or}
+use Rattle.std.specs.Prelude.{ℕ, Bool, true, false, List, [], ◌∷◌, unwrap_or}
 use Rattle.sap_maps.specs.Maps.{Name}
 use Rattle.sap_maps.specs.Scope.{find}
 use Rattle.sap_maps.specs.Term.{Term}
@@ -13,7 +13,7 @@ use Rattle.sap_share.specs.Tables.{replaced}
 use Rattle.sap_lower.specs.declared.lowering.Lowering.{Lowering}
 use Rattle.sap_lower.specs.declared.parts.Part.{Part}
 use Rattle.sap_lower.specs.declared.parts.WritePort.{WritePort}
-use Rattle.sap_lower.specs.Facts.{facts_of}
+use Rattle.sap_lower.specs.Facts.{facts_of, is_zero}
 use Rattle.sap_lower.specs.Lowering.{present, Low, plus, low}
 use Rattle.sap_lower.specs.Reads.{entries_seen}
 
@@ -48,12 +48,18 @@ pub record Ported : Type 0 where
   pub wires : List Wire
   pub port : WritePort
 
--- the port after one more write
+-- What a port takes over from a write: of the first write all, since it counts only where that write is done; else a choice.
+abbrev pub taken_over : (first : Bool) → List Wire → (width : ℕ) → (when new old : Operand) → Low
+taken_over true ws w c n o = record { wires = ws; part = record { operand = n; width = w } }
+taken_over false ws w c n o = plus ws w (Choose c n o)
+
+-- the port after one more write; before the first its condition is the constant 0
 abbrev pub merged_port : WritePort → (when index value : Operand) → List Wire → Ported
 merged_port p c i a ws =
+    let first = is_zero p.enable in
     let e = plus ws 1 (Choose c (Constant 1 1) p.enable) in
-    let j = plus e.wires p.bits (Choose c i p.index) in
-    let k = plus j.wires p.width (Choose c a p.value) in
+    let j = taken_over first e.wires p.bits c i p.index in
+    let k = taken_over first j.wires p.width c a p.value in
     record {
       wires = k.wires;
       port = record { width = p.width; bits = p.bits; enable = e.part.operand; index = j.part.operand; value = k.part.operand };
