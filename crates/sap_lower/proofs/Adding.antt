@@ -12,8 +12,9 @@ use Rattle.sap_ir.specs.Prelude.{Action, set, put, Command}
 use Rattle.sap_lower.specs.declared.parts.Part.{Part}
 use Rattle.sap_lower.specs.declared.parts.WritePort.{WritePort}
 use Rattle.sap_lower.specs.declared.lowering.Lowering.{Lowering}
+use Rattle.sap_lower.specs.Facts.{is_zero}
 use Rattle.sap_lower.specs.Lowering.{nothing, Low, plus, leaves_nothing, low_two, sliced, is_outside, low_slice, low}
-use Rattle.sap_lower.specs.Commands.{port_of, low_set, low_put, low_action, low_command, low_commands}
+use Rattle.sap_lower.specs.Commands.{entries_plain, entries_under, port_of, taken_over, low_set, low_put, low_action, low_command, low_commands}
 
 -- of wires before and after: where none is added, where some are and then others, and where one is
 pub record OfEach (R : List Wire → List Wire → Type 0) : Type 0 where
@@ -68,20 +69,30 @@ module _ (R : List Wire → List Wire → Type 0) (each : OfEach R) where
 
   set_added : (ms : Shapes) (s : Lowering) (c : Term Name) (n : Name) (t : Term Name) → R s.wires (low_set ms s c n t).wires
   set_added ms s c n t =
-      let z = low ms s.entries c s.wires in
-      let x = low ms s.entries t z.wires in
-      each.both s.wires z.wires _ (low_added ms s.entries c s.wires) (each.both z.wires x.wires _ (low_added ms s.entries t z.wires) (each.wire x.wires _ _))
+      let es = entries_plain s.entries in
+      let z = low ms es c s.wires in
+      let seen = entries_under z s.entries in
+      let x = low ms seen t z.wires in
+      each.both s.wires z.wires _ (low_added ms es c s.wires) (each.both z.wires x.wires _ (low_added ms seen t z.wires) (each.wire x.wires _ _))
+
+  pub over_added : (first : Bool) (ws : List Wire) (w : ℕ) (c n o : Operand) → R ws (taken_over first ws w c n o).wires
+  over_added true ws w c n o = each.none ws
+  over_added false ws w c n o = each.wire ws _ _
 
   put_added : (ms : Shapes) (es : List (Name × Part)) (p : WritePort) (c i t : Term Name) (ws : List Wire) → R ws (low_put ms es p c i t ws).wires
   put_added ms es p c i t ws =
-      let z = low ms es c ws in
-      let y = low ms es i z.wires in
-      let x = low ms es t y.wires in
+      let plain = entries_plain es in
+      let z = low ms plain c ws in
+      let seen = entries_under z es in
+      let y = low ms seen i z.wires in
+      let x = low ms seen t y.wires in
       let e = plus x.wires 1 (Choose z.part.operand (Constant 1 1) p.enable) in
-      let j = plus e.wires p.bits (Choose z.part.operand y.part.operand p.index) in
-      let last = each.wire j.wires p.width (Choose z.part.operand x.part.operand p.value) in
-      let port = each.both x.wires e.wires _ (each.wire x.wires _ _) (each.both e.wires j.wires _ (each.wire e.wires _ _) last) in
-      each.both ws z.wires _ (low_added ms es c ws) (each.both z.wires y.wires _ (low_added ms es i z.wires) (each.both y.wires x.wires _ (low_added ms es t y.wires) port))
+      let first = is_zero p.enable in
+      let j = taken_over first e.wires p.bits z.part.operand y.part.operand p.index in
+      let last = over_added first j.wires p.width z.part.operand x.part.operand p.value in
+      let index = over_added first e.wires p.bits z.part.operand y.part.operand p.index in
+      let port = each.both x.wires e.wires _ (each.wire x.wires _ _) (each.both e.wires j.wires _ index last) in
+      each.both ws z.wires _ (low_added ms plain c ws) (each.both z.wires y.wires _ (low_added ms seen i z.wires) (each.both y.wires x.wires _ (low_added ms seen t y.wires) port))
 
   action_added : (ms : Shapes) (s : Lowering) (c : Term Name) (a : Action) → R s.wires (low_action ms s c a).wires
   action_added ms s c (set x t) = set_added ms s c x t

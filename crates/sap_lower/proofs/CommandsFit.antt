@@ -1,19 +1,23 @@
 -- The wires of all assignments and writes fit.
-use Rattle.sap_lemmas.proofs.Common.{◌≡◌, ℕ, ◌^◌, ◌<◌, ◌≤◌, List, [], ◌∷◌, Some, length, ap, subst, refl, arith, inl, inr, unwrap_or, bytes_eq, AllByRecursion, cases_Bool, same_power, equal_of_bytes_eq}
+use Rattle.sap_lemmas.proofs.Common.{◌≡◌, ℕ, ◌^◌, ◌<◌, ◌≤◌, Bool, true, false, List, [], ◌∷◌, Some, length, ap, subst, refl, arith, inl, inr, unwrap_or, bytes_eq, AllByRecursion, cases_Bool, same_power, equal_of_bytes_eq}
 use Rattle.sap_net.proofs.RulesLemmas.{one_wide, Grows, operand_grows}
 use Rattle.sap_maps.specs.Prelude.{Name, Scope, find, Term}
 use Rattle.sap_net.specs.Rules.{Shapes, IsWidth, IsDepth, IsOperand, readable_after}
+use Rattle.sap_net.specs.declared.parts.Operand.{Operand}
 use Rattle.sap_net.specs.declared.parts.Operand.TheVariants.{Constant}
 use Rattle.sap_net.specs.declared.parts.Right.TheVariants.{Choose}
+use Rattle.sap_net.specs.declared.parts.Wire.{Wire}
 use Rattle.sap_ir.specs.Prelude.{Action, set, put, Command, TermFine}
 use Rattle.sap_lower.specs.declared.parts.WritePort.{WritePort}
+use Rattle.sap_lower.specs.Facts.{facts_of, is_zero}
 use Rattle.sap_lower.specs.Lowering.{nothing, present, plus, low}
 use Rattle.sap_share.specs.Tables.{replaced}
 use Rattle.sap_lower.specs.declared.lowering.Lowering.{Lowering}
-use Rattle.sap_lower.specs.Commands.{no_port, port_of, low_set, low_put, low_action, low_command, low_commands}
+use Rattle.sap_lower.specs.Commands.{entries_plain, entries_under, no_port, port_of, taken_over, low_set, low_put, low_action, low_command, low_commands}
 use Rattle.sap_lower.proofs.Stands.{HasEntries, replaced_same, replaced_other, replaced_has}
 use Rattle.sap_lower.proofs.Standing.{ActionOk, CommandOk}
 use Rattle.sap_lower.proofs.Adding.{commands_added}
+use Rattle.sap_lower.proofs.SeenFits.{env_seen_fits}
 use Rattle.sap_lower.proofs.Fits.{IsLonger, longer, Fits, NoHelpers, EnvFits, env_grows, Lowered, plus_at, plus_long, low_long, low_fits}
 
 abbrev pub AllWide : Scope → Type 0
@@ -61,16 +65,20 @@ set_fits : (ms : Shapes) (sc vars : Scope) → NoHelpers ms → AllWide vars →
     → Lowered ms sc s.wires (low_set ms s c n t).wires (low_set ms s c n t).part u
 set_fits ms sc vars apart wide s c n t u found fc ft k l =
     let es = s.entries in
-    let z = low ms es c s.wires in
-    let x = low ms es t z.wires in
+    let plain = entries_plain es in
+    let z = low ms plain c s.wires in
+    let seen = entries_under z es in
+    let x = low ms seen t z.wires in
     let o = present es n in
     let r = Choose z.part.operand x.part.operand o.operand in
     let e = plus_long x.wires o.width r in
-    let lx = low_long ms es t z.wires in
+    let lx = low_long ms seen t z.wires in
     let iu = wide n u found in
-    let c' = low_fits ms sc vars es apart 1 c one_wide fc s.wires k.env k.fits (omega (arith, e, lx)) in
+    let ep = env_seen_fits ms (readable_after sc s.wires) [] tt [] vars es k.env in
+    let c' = low_fits ms sc vars plain apart 1 c one_wide fc s.wires ep k.fits (omega (arith, e, lx)) in
     let ez = env_grows (readable_after sc s.wires) (readable_after sc z.wires) vars es c'.grows k.env in
-    let t' = low_fits ms sc vars es apart u t iu ft z.wires ez c'.fits (omega (arith, e)) in
+    let eu = env_seen_fits ms sc z.wires c'.fits.wires (facts_of z.wires z.part.operand) vars es ez in
+    let t' = low_fits ms sc vars seen apart u t iu ft z.wires eu c'.fits (omega (arith, e)) in
     let ex = env_grows (readable_after sc z.wires) (readable_after sc x.wires) vars es t'.grows ez in
     let old = ex n u found in
     let oc = operand_grows (readable_after sc z.wires) (readable_after sc x.wires) t'.grows 1 z.part.operand c'.operand in
@@ -116,6 +124,16 @@ set_state_fits ms sc vars apart wide s c n t u found fc ft k l =
           ];
     }
 
+over_long : (first : Bool) (ws : List Wire) (w : ℕ) (c n o : Operand) → length ws ≤ length (taken_over first ws w c n o).wires
+over_long true ws w c n o = omega arith
+over_long false ws w c n o = plus_long ws w (Choose c n o)
+
+over_fits : (ms : Shapes) (sc : Scope) (first : Bool) (ws : List Wire) (w u : ℕ) (c n o : Operand) → w ≡ u → NoHelpers ms → Fits ms sc ws → IsWidth u
+    → IsOperand (readable_after sc ws) 1 c → IsOperand (readable_after sc ws) u n → IsOperand (readable_after sc ws) u o
+    → length (taken_over first ws w c n o).wires < 2 ^ 64 → Lowered ms sc ws (taken_over first ws w c n o).wires (taken_over first ws w c n o).part u
+over_fits ms sc true ws w u c n o e apart fits iw oc on oo l = record { fits = fits; grows = λ m k h. h; operand = on; width = e }
+over_fits ms sc false ws w u c n o e apart fits iw oc on oo l = plus_at ms sc ws w u (Choose c n o) e apart fits iw (oc, on, oo) l
+
 put_state_fits : (ms : Shapes) (sc vars : Scope) → NoHelpers ms → AllCellsWide ms
     → (s : Lowering) (c : Term Name) (m : Name) (i t : Term Name) (w b : ℕ) → IsWidth b → find ms m ≡ Some (w, 2 ^ b) → TermFine ms vars 1 c
     → TermFine ms vars b i → TermFine ms vars w t → StateFits ms sc vars s → length (low_action ms s c (put m i t)).wires < 2 ^ 64
@@ -124,20 +142,21 @@ put_state_fits ms sc vars apart wide s c m i t w b ib found fc fi ft k len =
     let es = s.entries in
     let p = port_of s.ports m in
     let pf = k.ports m (w, 2 ^ b) found in
-    let z = low ms es c s.wires in
-    let y = low ms es i z.wires in
-    let x = low ms es t y.wires in
+    let plain = entries_plain es in
+    let z = low ms plain c s.wires in
+    let seen = entries_under z es in
+    let y = low ms seen i z.wires in
+    let x = low ms seen t y.wires in
     let re = Choose z.part.operand (Constant 1 1) p.enable in
     let e = plus x.wires 1 re in
-    let rj = Choose z.part.operand y.part.operand p.index in
-    let j = plus e.wires p.bits rj in
-    let rl = Choose z.part.operand x.part.operand p.value in
-    let l = plus j.wires p.width rl in
-    let ll = plus_long j.wires p.width rl in
-    let lj = plus_long e.wires p.bits rj in
+    let first = is_zero p.enable in
+    let j = taken_over first e.wires p.bits z.part.operand y.part.operand p.index in
+    let l = taken_over first j.wires p.width z.part.operand x.part.operand p.value in
+    let ll = over_long first j.wires p.width z.part.operand x.part.operand p.value in
+    let lj = over_long first e.wires p.bits z.part.operand y.part.operand p.index in
     let le = plus_long x.wires 1 re in
-    let lx = low_long ms es t y.wires in
-    let ly = low_long ms es i z.wires in
+    let lx = low_long ms seen t y.wires in
+    let ly = low_long ms seen i z.wires in
     let iw = wide m (w, 2 ^ b) found in
     let bits : b ≡ p.bits = same_power b p.bits pf.deep.2 in
     let s0 = readable_after sc s.wires in
@@ -147,11 +166,13 @@ put_state_fits ms sc vars apart wide s c m i t w b ib found fc fi ft k len =
     let se = readable_after sc e.wires in
     let sj = readable_after sc j.wires in
     let sl = readable_after sc l.wires in
-    let c' = low_fits ms sc vars es apart 1 c one_wide fc s.wires k.env k.fits (omega (arith, ll, lj, le, lx, ly)) in
+    let ep = env_seen_fits ms s0 [] tt [] vars es k.env in
+    let c' = low_fits ms sc vars plain apart 1 c one_wide fc s.wires ep k.fits (omega (arith, ll, lj, le, lx, ly)) in
     let ez = env_grows s0 sz vars es c'.grows k.env in
-    let i' = low_fits ms sc vars es apart b i ib fi z.wires ez c'.fits (omega (arith, ll, lj, le, lx)) in
-    let ey = env_grows sz sy vars es i'.grows ez in
-    let t' = low_fits ms sc vars es apart w t iw ft y.wires ey i'.fits (omega (arith, ll, lj, le)) in
+    let eu = env_seen_fits ms sc z.wires c'.fits.wires (facts_of z.wires z.part.operand) vars es ez in
+    let i' = low_fits ms sc vars seen apart b i ib fi z.wires eu c'.fits (omega (arith, ll, lj, le, lx)) in
+    let ey = env_grows sz sy vars seen i'.grows eu in
+    let t' = low_fits ms sc vars seen apart w t iw ft y.wires ey i'.fits (omega (arith, ll, lj, le)) in
     let g0x : Grows s0 sx = λ n q h. t'.grows n q (i'.grows n q (c'.grows n q h)) in
     let px = port_grows s0 sx g0x p w (2 ^ b) pf in
     let oc = operand_grows sy sx t'.grows 1 z.part.operand (operand_grows sz sy i'.grows 1 z.part.operand c'.operand) in
@@ -159,12 +180,12 @@ put_state_fits ms sc vars apart wide s c m i t w b ib found fc fi ft k len =
     let e' = plus_at ms sc x.wires 1 1 re refl apart t'.fits one_wide (oc, (refl, omega arith), px.enable) (omega (arith, ll, lj)) in
     let pe = port_grows sx se e'.grows p w (2 ^ b) px in
     let oi' = subst (λ (q : ℕ). IsOperand se q y.part.operand) bits (operand_grows sx se e'.grows b y.part.operand oi) in
-    let j' = plus_at ms sc e.wires p.bits p.bits rj refl apart e'.fits (subst (λ (q : ℕ). IsWidth q) bits ib)
-    (operand_grows sx se e'.grows 1 z.part.operand oc, oi', pe.index) (omega (arith, ll)) in
+    let j' = over_fits ms sc first e.wires p.bits p.bits z.part.operand y.part.operand p.index refl apart e'.fits (subst (λ (q : ℕ). IsWidth q) bits ib)
+    (operand_grows sx se e'.grows 1 z.part.operand oc) oi' pe.index (omega (arith, ll)) in
     let pj = port_grows se sj j'.grows p w (2 ^ b) pe in
     let ot = operand_grows se sj j'.grows w x.part.operand (operand_grows sx se e'.grows w x.part.operand t'.operand) in
     let ocj = operand_grows se sj j'.grows 1 z.part.operand (operand_grows sx se e'.grows 1 z.part.operand oc) in
-    let l' = plus_at ms sc j.wires p.width w rl pf.wide apart j'.fits iw (ocj, ot, pj.value) len in
+    let l' = over_fits ms sc first j.wires p.width w z.part.operand x.part.operand p.value pf.wide apart j'.fits iw ocj ot pj.value len in
     let g0l : Grows s0 sl = λ n q h. l'.grows n q (j'.grows n q (e'.grows n q (g0x n q h))) in
     let port = (low_put ms es p c i t s.wires).port in
     let here : PortFits sl port w (2 ^ b) = record {

@@ -2,7 +2,7 @@
 use Rattle.sap_lemmas.proofs.Common.{◌≡◌, ℕ, ◌^◌, ◌<◌, ◌==◌, ◌&&◌, List, [], ◌∷◌, ◌++◌, map, Option, Some, None, Bool, false, sym, ap, ◌∙◌, subst, refl, if◌then◌else◌, unwrap_or, AllByRecursion, AllZip, all_of_map, all_parts, all_second}
 use Rattle.sap_net.proofs.RulesLemmas.{readable_kept}
 use Rattle.sap_maps.specs.Prelude.{Name, Valuation, Scope, find}
-use Rattle.sap_maps.proofs.Scopes.{found_here}
+use Rattle.sap_maps.proofs.Scopes.{found_here, found_behind}
 use Rattle.sap_net.specs.Prelude.{AreDistinct, Net, Shapes, AreWires, readable_after, operand_value, Holds, first_readable, readable, shapes, width_of, IsNetlist, written, IsWithin, InputsAre, IsCycle, IsRunAfter, observed, WidthsAre}
 use Rattle.sap_net.specs.declared.parts.Wire.{Wire}
 use Rattle.sap_net.proofs.Within.{widths_are}
@@ -19,6 +19,7 @@ use Rattle.sap_lower.specs.Lowering.{present}
 use Rattle.sap_lower.specs.Commands.{port_of, no_port}
 use Rattle.sap_lower.specs.Lowered.{first_entries, first_port, input_of, listed, out_wire, register_of, memory_of, registers_declared, first_lowering, last_lowering, lowered}
 use Rattle.sap_lower.specs.Same.{SameNumbers, RunsAlike}
+use Rattle.sap_lower.proofs.SeenFits.{right_parts, parts_wide}
 use Rattle.sap_lower.proofs.Shared.{Gives}
 use Rattle.sap_lower.proofs.Means.{Env, SameCells, Around, gives_front, gives_behind}
 use Rattle.sap_lower.proofs.Stands.{HasEntries}
@@ -47,7 +48,12 @@ gives_from : (widths : Name → ℕ) (v : Valuation) (ms : Shapes) (ws : List Wi
     → WidthsAre (readable_after sc ws) widths → Holds widths v ws → Gives widths v ws
 gives_from widths v ms [] sc f w h = tt
 gives_from widths v ms (x ∷ ws) sc f w h =
-    (h.0, w x.name x.width (readable_kept ms ws _ f.4 x.name x.width (found_here x.name x.width sc)), gives_from widths v ms ws _ f.4 w h.1)
+    let kept = λ (m : Name) (k : ℕ) (g : find sc m ≡ Some k). readable_kept ms ws ((x.name, x.width) ∷ sc) f.4 m k (found_behind sc x.name x.width f.1 m k g) in (
+      h.0,
+      w x.name x.width (readable_kept ms ws _ f.4 x.name x.width (found_here x.name x.width sc)),
+      parts_wide (readable_after sc (x ∷ ws)) widths w x.width x.right (right_parts ms sc (readable_after sc (x ∷ ws)) kept x.width x.right f.3),
+      gives_from widths v ms ws _ f.4 w h.1,
+    )
 
 known_from : (n : Net) (v : Valuation) → IsWithin n v → (xs : List Var) → AllByRecursion (λ x. find (readable n) x.name ≡ Some x.width) xs
     → AllByRecursion (IsKnown (width_of n) v) xs
@@ -141,7 +147,7 @@ ends_same widths v sc es g env (r ∷ rs) f = ((env r.name r.width f.0).shows.va
 outs_same : (widths : Name → ℕ) (v : Valuation) (es : List (Name × Part)) (g : Name → ℕ) (rs : List Var)
     → Gives widths v (map (out_wire es) rs) → AllByRecursion (λ x. operand_value v (present es x.name).operand ≡ g x.name) rs → AllByRecursion (λ x. v.value x.name ≡ g x.name) rs
 outs_same widths v es g [] h a = tt
-outs_same widths v es g (r ∷ rs) h a = (h.0 ∙ a.0, outs_same widths v es g rs h.2 a.1)
+outs_same widths v es g (r ∷ rs) h a = (h.0 ∙ a.0, outs_same widths v es g rs h.3 a.1)
 
 memories_same : (ms : Shapes) (v : Valuation) (ps : List (Name × WritePort)) (g : Going) (done : Name → Bool) → PortsAre ms v ps g done
     → SameCells ms v g.now.cell → (xs : List MemoryVariable) → AllByRecursion (λ m. find ms m.name ≡ Some (m.width, m.depth)) xs

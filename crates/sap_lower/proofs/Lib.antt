@@ -1,3 +1,9 @@
+pub mod Commanded
+pub mod Under
+pub mod Known
+pub mod SeenFits
+pub mod Entries
+pub mod Front
 pub mod Shared
 pub mod Glue
 pub mod Adding

@@ -46,16 +46,16 @@ pub record SameCells (ms : Shapes) (v : Valuation) (cells : Name → ℕ → ℕ
 
 pub gives_front : (widths : Name → ℕ) (v : Valuation) (ws more : List Wire) → Gives widths v (ws ++ more) → Gives widths v ws
 gives_front widths v [] more h = tt
-gives_front widths v (w ∷ ws) more h = (h.0, h.1, gives_front widths v ws more h.2)
+gives_front widths v (w ∷ ws) more h = (h.0, h.1, h.2, gives_front widths v ws more h.3)
 
 pub gives_behind : (widths : Name → ℕ) (v : Valuation) (ws more : List Wire) → Gives widths v (ws ++ more) → Gives widths v more
 gives_behind widths v [] more h = h
-gives_behind widths v (w ∷ ws) more h = gives_behind widths v ws more h.2
+gives_behind widths v (w ∷ ws) more h = gives_behind widths v ws more h.3
 
 gives_last : (widths : Name → ℕ) (v : Valuation) (ws : List Wire) (w : Wire) → Gives widths v (ws ++ w ∷ [])
     → (v.value w.name ≡ right_value widths v w.right) × (widths w.name ≡ w.width)
 gives_last widths v [] w h = (h.0, h.1)
-gives_last widths v (x ∷ ws) w h = gives_last widths v ws w h.2
+gives_last widths v (x ∷ ws) w h = gives_last widths v ws w h.3
 
 -- a wire stands for its right side, whether it was there or is added
 

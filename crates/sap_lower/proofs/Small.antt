@@ -23,9 +23,10 @@ use Rattle.sap_lower.specs.declared.parts.WritePort.{WritePort}
 use Rattle.sap_share.specs.Keys.{key}
 use Rattle.sap_share.specs.Names.{helper}
 use Rattle.sap_share.specs.Rights.{rights}
+use Rattle.sap_lower.specs.Facts.{is_zero}
 use Rattle.sap_lower.specs.Lowering.{nothing, present, Low, shared, plus, leaves_nothing, low_two, sliced, is_outside, low_slice, cell_width, low_join, low}
 use Rattle.sap_lower.specs.declared.lowering.Lowering.{Lowering}
-use Rattle.sap_lower.specs.Commands.{port_of, low_chosen, merged_port, low_put, low_action, low_command, low_commands}
+use Rattle.sap_lower.specs.Commands.{entries_plain, entries_under, port_of, taken_over, low_chosen, merged_port, low_put, low_action, low_command, low_commands}
 use Rattle.sap_lower.specs.Lowered.{first_lowering, last_lowering, out_wire, listed, unlisted, unported, picked, register_of, memory_of, registers_declared, lowered}
 use Rattle.sap_lower.proofs.Adding.{OfEach, low_added}
 use Rattle.sap_lower.proofs.Declares.{picked_names, unlisted_names}
@@ -321,32 +322,41 @@ low_adds ms es t ws =
 chosen_adds : (ms : Shapes) (es : List (Name × Part)) (ws : List Wire) (c : Term Name) (x : Name) (a : Term Name)
     → length (low_chosen ms es ws c x a).wires ≤ length ws + (1 + operations c + operations a)
 chosen_adds ms es ws c x a =
-    let z = low ms es c ws in
-    let y = low ms es a z.wires in
+    let plain = entries_plain es in
+    let z = low ms plain c ws in
+    let seen = entries_under z es in
+    let y = low ms seen a z.wires in
     let old = present es x in
-    let p = low_adds ms es c ws in
-    let q = low_adds ms es a z.wires in
+    let p = low_adds ms plain c ws in
+    let q = low_adds ms seen a z.wires in
     let r = plus_adds y.wires old.width (Choose z.part.operand y.part.operand old.operand) in
     omega (arith, p, q, r)
+
+over_adds : (first : Bool) (ws : List Wire) (w : ℕ) (c n o : Operand) → length (taken_over first ws w c n o).wires ≤ length ws + 1
+over_adds true ws w c n o = omega arith
+over_adds false ws w c n o = plus_adds ws w (Choose c n o)
 
 port_adds : (p : WritePort) (c i a : Operand) (ws : List Wire) → length (merged_port p c i a ws).wires ≤ length ws + 3
 port_adds p c i a ws =
     let e = plus ws 1 (Choose c (Constant 1 1) p.enable) in
-    let j = plus e.wires p.bits (Choose c i p.index) in
+    let first = is_zero p.enable in
+    let j = taken_over first e.wires p.bits c i p.index in
     let q = plus_adds ws 1 (Choose c (Constant 1 1) p.enable) in
-    let r = plus_adds e.wires p.bits (Choose c i p.index) in
-    let s = plus_adds j.wires p.width (Choose c a p.value) in
+    let r = over_adds first e.wires p.bits c i p.index in
+    let s = over_adds first j.wires p.width c a p.value in
     omega (arith, q, r, s)
 
 put_adds : (ms : Shapes) (es : List (Name × Part)) (p : WritePort) (c i a : Term Name) (ws : List Wire)
     → length (low_put ms es p c i a ws).wires ≤ length ws + (3 + operations c + operations i + operations a)
 put_adds ms es p c i a ws =
-    let z = low ms es c ws in
-    let y = low ms es i z.wires in
-    let x = low ms es a y.wires in
-    let k = low_adds ms es c ws in
-    let l = low_adds ms es i z.wires in
-    let m = low_adds ms es a y.wires in
+    let plain = entries_plain es in
+    let z = low ms plain c ws in
+    let seen = entries_under z es in
+    let y = low ms seen i z.wires in
+    let x = low ms seen a y.wires in
+    let k = low_adds ms plain c ws in
+    let l = low_adds ms seen i z.wires in
+    let m = low_adds ms seen a y.wires in
     let n = port_adds p z.part.operand y.part.operand x.part.operand x.wires in
     omega (arith, k, l, m, n)
 

@@ -1,16 +1,16 @@
 -- After the assignments each name's operand has its value.
-use Rattle.sap_lemmas.proofs.Common.{◌≡◌, ℕ, ◌^◌, ◌==◌, List, [], ◌∷◌, Some, Bool, true, false, sym, ap, ◌∙◌, subst, refl, inl, inr, if◌then◌else◌, unwrap_or, bytes_eq, cases_Bool, bytes_eq_apart_back, bytes_eq_same, equal_of_bytes_eq}
+use Rattle.sap_lemmas.proofs.Common.{◌≡◌, ℕ, ◌==◌, List, [], ◌∷◌, Some, Bool, true, false, sym, ap, ◌∙◌, subst, refl, inl, inr, if◌then◌else◌, unwrap_or, bytes_eq, cases_Bool, bytes_eq_apart_back, bytes_eq_same, equal_of_bytes_eq}
 use Rattle.sap_maps.specs.Prelude.{Name, Valuation, set_value, Scope, find, Term}
-use Rattle.sap_maps.proofs.Terms.{below_both}
 use Rattle.sap_net.specs.Rules.{Shapes}
 use Rattle.sap_net.specs.declared.parts.Right.TheVariants.{Choose}
 use Rattle.sap_ir.specs.Prelude.{Going, value_in, TermFine}
 use Rattle.sap_lower.specs.Lowering.{nothing, present, low}
 use Rattle.sap_share.specs.Tables.{replaced}
 use Rattle.sap_lower.specs.declared.lowering.Lowering.{Lowering}
-use Rattle.sap_lower.specs.Commands.{low_set}
+use Rattle.sap_lower.specs.Commands.{entries_plain, entries_under, low_set}
 use Rattle.sap_lower.proofs.Shared.{Gives}
 use Rattle.sap_lower.proofs.Means.{Stands, Env, Around, plus_front, plus_shows, low_front, low_stands}
+use Rattle.sap_lower.proofs.Under.{around_plain, around_under}
 
 -- entries
 
@@ -60,19 +60,33 @@ set_here : (ms : Shapes) (vars : Scope) (vw widths : Name → ℕ) (v : Valuatio
     → Stands widths v (low_set ms s c n t).part u (if value_in vw g c == 0 then g.now.value n else value_in vw g t)
 set_here ms vars vw widths v s g k c n t u found fc ft h =
     let es = s.entries in
-    let z = low ms es c s.wires in
-    let x = low ms es t z.wires in
+    let plain = entries_plain es in
+    let z = low ms plain c s.wires in
+    let seen = entries_under z es in
+    let x = low ms seen t z.wires in
     let old = present es n in
     let hx = plus_front widths v x.wires old.width (Choose z.part.operand x.part.operand old.operand) h in
-    let sz = low_stands ms vars vw widths v es g.now.value g.now.cell k 1 c fc s.wires (low_front widths v ms es t z.wires hx) in
-    let sx = low_stands ms vars vw widths v es g.now.value g.now.cell k u t ft z.wires hx in
+    let hz = low_front widths v ms seen t z.wires hx in
+    let kp = around_plain ms vars vw widths v es g.now.value g.now.cell k in
+    let sz = low_stands ms vars vw widths v plain g.now.value g.now.cell kp 1 c fc s.wires hz in
     let so = k.env n u found in
     let p = plus_shows widths v x.wires old.width (Choose z.part.operand x.part.operand old.operand) h in
-    let e1 = sz.shows.value in let e2 = sx.shows.value in let e3 = so.shows.value in
-    record {
-      shows = record { value = p.value ∙ rw (e1, e2, e3) refl; wide = p.wide ∙ so.shows.width; width = p.width ∙ so.shows.width };
-      below = below_both (value_in vw g c == 0) (g.now.value n) (value_in vw g t) (2 ^ u) so.below sx.below;
-    }
+    let e1 = sz.shows.value in
+    let e3 = so.shows.value in
+    elim (cases_Bool (value_in vw g c == 0)) [
+      | inl off ↦
+          rw off (record {
+            shows = record { value = p.value ∙ rw (e1, off) e3; wide = p.wide ∙ so.shows.width; width = p.width ∙ so.shows.width };
+            below = so.below;
+          })
+      | inr on ↦
+          let ku = around_under ms vars vw widths v es g.now.value g.now.cell k z hz (value_in vw g c) e1 on in
+          let sx = low_stands ms vars vw widths v seen g.now.value g.now.cell ku u t ft z.wires hx in
+          rw on (record {
+            shows = record { value = p.value ∙ rw (e1, on) sx.shows.value; wide = p.wide ∙ so.shows.width; width = p.width ∙ so.shows.width };
+            below = sx.below;
+          })
+    ]
 
 pub set_stands : (ms : Shapes) (vars : Scope) (vw widths : Name → ℕ) (v : Valuation) (s : Lowering) (g : Going)
     → Around ms vars vw widths v s.entries g.now.value g.now.cell → HasEntries vars s.entries

@@ -1,5 +1,5 @@
 -- The wires that assignments become, and what each name stands for after them.
-use Rattle.std.specs.Prelude.{List, [], ◌∷◌, unwrap_or}
+use Rattle.std.specs.Prelude.{ℕ, Bool, true, false, List, [], ◌∷◌, unwrap_or}
 use Rattle.sap_maps.specs.Maps.{Name}
 use Rattle.sap_maps.specs.Scope.{find}
 use Rattle.sap_maps.specs.Term.{Term}
@@ -13,7 +13,9 @@ use Rattle.sap_share.specs.Tables.{replaced}
 use Rattle.sap_lower.specs.declared.lowering.Lowering.{Lowering}
 use Rattle.sap_lower.specs.declared.parts.Part.{Part}
 use Rattle.sap_lower.specs.declared.parts.WritePort.{WritePort}
+use Rattle.sap_lower.specs.Facts.{facts_of, is_zero}
 use Rattle.sap_lower.specs.Lowering.{present, Low, plus, low}
+use Rattle.sap_lower.specs.Reads.{entries_seen}
 
 abbrev pub no_port : WritePort
 no_port = record { width = 0; bits = 0; enable = Constant 0 0; index = Constant 0 0; value = Constant 0 0 }
@@ -25,10 +27,18 @@ port_of ps m = unwrap_or (find ps m) no_port
 abbrev pub chosen : List (Name × Part) → Name → (when value : Operand) → List Wire → Low
 chosen es x c a ws = let old = present es x in plus ws old.width (Choose c a old.operand)
 
+-- what each name stands for where a gate that has these wires and this operand is 1
+abbrev pub entries_under : (gate : Low) → List (Name × Part) → List (Name × Part)
+entries_under z es = entries_seen z.wires (facts_of z.wires z.part.operand) es
+
+-- what each name stands for where nothing is known
+abbrev pub entries_plain : List (Name × Part) → List (Name × Part)
+entries_plain es = entries_seen [] [] es
+
 abbrev pub low_chosen : Shapes → List (Name × Part) → List Wire → Term Name → Name → Term Name → Low
 low_chosen ms es ws c x a =
-    let z = low ms es c ws in
-    let y = low ms es a z.wires in
+    let z = low ms (entries_plain es) c ws in
+    let y = low ms (entries_under z es) a z.wires in
     chosen es x z.part.operand y.part.operand y.wires
 
 abbrev pub low_set : Shapes → Lowering → Term Name → Name → Term Name → Low
@@ -38,12 +48,18 @@ pub record Ported : Type 0 where
   pub wires : List Wire
   pub port : WritePort
 
--- the port after one more write
+-- What a port takes over from a write: of the first write all, since it counts only where that write is done; else a choice.
+abbrev pub taken_over : (first : Bool) → List Wire → (width : ℕ) → (when new old : Operand) → Low
+taken_over true ws w c n o = record { wires = ws; part = record { operand = n; width = w } }
+taken_over false ws w c n o = plus ws w (Choose c n o)
+
+-- the port after one more write; before the first its condition is the constant 0
 abbrev pub merged_port : WritePort → (when index value : Operand) → List Wire → Ported
 merged_port p c i a ws =
+    let first = is_zero p.enable in
     let e = plus ws 1 (Choose c (Constant 1 1) p.enable) in
-    let j = plus e.wires p.bits (Choose c i p.index) in
-    let k = plus j.wires p.width (Choose c a p.value) in
+    let j = taken_over first e.wires p.bits c i p.index in
+    let k = taken_over first j.wires p.width c a p.value in
     record {
       wires = k.wires;
       port = record { width = p.width; bits = p.bits; enable = e.part.operand; index = j.part.operand; value = k.part.operand };
@@ -51,9 +67,10 @@ merged_port p c i a ws =
 
 abbrev pub low_put : Shapes → List (Name × Part) → WritePort → (c i a : Term Name) → List Wire → Ported
 low_put ms es p c i a ws =
-    let z = low ms es c ws in
-    let y = low ms es i z.wires in
-    let x = low ms es a y.wires in
+    let z = low ms (entries_plain es) c ws in
+    let seen = entries_under z es in
+    let y = low ms seen i z.wires in
+    let x = low ms seen a y.wires in
     merged_port p z.part.operand y.part.operand x.part.operand x.wires
 
 -- A name stands for another part, ..

@@ -1,3 +1,5 @@
+pub mod Facts
+pub mod Reads
 pub mod Lowering
 pub mod Parts
 pub mod Lookup

@@ -1,12 +1,15 @@
 //! Expressions to wires of one operator each.
 
-ghost use Rattle.std.specs.Prelude.{◌≡◌, ◌-◌, ◌+◌, ◌<◌, map, IfOk, OnOk};
+ghost use Rattle.std.specs.Prelude.{◌≡◌, ◌-◌, ◌+◌, ◌<◌, ◌≤◌, map, length, take, IfOk, OnOk};
 ghost use Rattle.sap_bits.specs.Arithmetic.{width1, width2};
 ghost use Rattle.sap_ir.specs.Calcs.{term_of};
 ghost use Rattle.sap_lower.specs.Lowering.{cell_width, leaves_nothing, low, low_join, low_slice, low_two, nothing, present};
 ghost use Rattle.sap_lower.specs.Parts.{glued, low_all};
+ghost use Rattle.sap_lower.specs.Reads.{entries_seen};
 
+use crate::facts::Fact;
 use crate::parts::Part;
+use crate::reads::{CHOICES, seen};
 use crate::wires::Wires;
 use sap_bits::{Op1, Op2, slice};
 use sap_ir::guarded::Calc;
@@ -30,6 +33,30 @@ pub fn present_part(alloc: Global, entries: &Table<Part>, name: &Name) -> Result
 {
     match entries.get(name) {
         Some(part) => part.copy(alloc),
+        None => Ok(nothing_yet()),
+    }
+}
+
+/// What a name stands for where the facts hold.
+fn seen_part(
+    alloc: Global,
+    wires: &Wires,
+    entries: &Table<Part>,
+    facts: &[Fact],
+    before: usize,
+    name: &Name,
+) -> Result<Part, AllocError>
+    ensures { IfOk result (λ p. p ≡ present (entries_seen (take before wires.now) facts.now entries.now) name.now) }
+{
+    match entries.get(name) {
+        Some(part) => {
+            let operand = seen(facts, wires, before, CHOICES, &part.operand);
+            let operand = operand.copy(alloc)?;
+            Ok(Part {
+                operand,
+                width: part.width,
+            })
+        }
         None => Ok(nothing_yet()),
     }
 }
@@ -152,15 +179,21 @@ fn glue(alloc: Global, wires: &mut Wires, parts: Vec<Part>) -> Result<Part, Allo
 
 /// The operand that has an expression's value, after some more wires.
 #[cycle(lower)]
+#[tactic(auto, using(crate::proofs::Front::low_take, crate::proofs::Front::low_longer))]
 pub fn lower_calc(
     alloc: Global,
     wires: &mut Wires,
     entries: &Table<Part>,
+    facts: &[Fact],
+    before: usize,
     memories: &Table<(u32, u32)>,
     calc: &Calc,
 ) -> Result<Part, AllocError>
-    ensures wires { OnOk result (wires.new ≡ (low memories.now entries.now (term_of calc.now) wires.old).wires) }
-    ensures part { IfOk result (λ p. p ≡ (low memories.now entries.now (term_of calc.now) wires.old).part) }
+    requires { before ≤ length wires.old }
+    ensures wires { OnOk result (wires.new ≡ (low memories.now (entries_seen (take before wires.old) facts.now entries.now) (term_of calc.now) wires.old).wires) }
+    ensures part { IfOk result (λ p. p ≡ (low memories.now (entries_seen (take before wires.old) facts.now entries.now) (term_of calc.now) wires.old).part) }
+    ensures front { OnOk result (take before wires.new ≡ take before wires.old) }
+    ensures longer { OnOk result (before ≤ length wires.new) }
 {
     match calc {
         Calc::Constant { width, value } => Ok(Part {
@@ -170,9 +203,9 @@ pub fn lower_calc(
             },
             width: *width,
         }),
-        Calc::Read(name) => present_part(alloc, entries, name),
+        Calc::Read(name) => seen_part(alloc, wires, entries, facts, before, name),
         Calc::Cell { memory, index } => {
-            let index = lower_calc(alloc, wires, entries, memories, index)?;
+            let index = lower_calc(alloc, wires, entries, facts, before, memories, index)?;
             let width = width_of_cells(memories, memory);
             let memory = memory.copy(alloc)?;
             wires.add(
@@ -185,18 +218,18 @@ pub fn lower_calc(
             )
         }
         Calc::One(op, a) => {
-            let a = lower_calc(alloc, wires, entries, memories, a)?;
+            let a = lower_calc(alloc, wires, entries, facts, before, memories, a)?;
             wires.add(alloc, width_one(*op, a.width), Right::One(*op, a.operand))
         }
         Calc::Two(op, a, b) => {
-            let a = lower_calc(alloc, wires, entries, memories, a)?;
-            let b = lower_calc(alloc, wires, entries, memories, b)?;
+            let a = lower_calc(alloc, wires, entries, facts, before, memories, a)?;
+            let b = lower_calc(alloc, wires, entries, facts, before, memories, b)?;
             lower_two(alloc, wires, *op, a, b)
         }
         Calc::Choose(c, a, b) => {
-            let c = lower_calc(alloc, wires, entries, memories, c)?;
-            let a = lower_calc(alloc, wires, entries, memories, a)?;
-            let b = lower_calc(alloc, wires, entries, memories, b)?;
+            let c = lower_calc(alloc, wires, entries, facts, before, memories, c)?;
+            let a = lower_calc(alloc, wires, entries, facts, before, memories, a)?;
+            let b = lower_calc(alloc, wires, entries, facts, before, memories, b)?;
             wires.add(
                 alloc,
                 a.width,
@@ -204,11 +237,11 @@ pub fn lower_calc(
             )
         }
         Calc::Concat(parts) => {
-            let parts = lower_all(alloc, wires, entries, memories, parts)?;
+            let parts = lower_all(alloc, wires, entries, facts, before, memories, parts)?;
             glue(alloc, wires, parts)
         }
         Calc::Slice { of, hi, lo } => {
-            let of = lower_calc(alloc, wires, entries, memories, of)?;
+            let of = lower_calc(alloc, wires, entries, facts, before, memories, of)?;
             lower_slice(alloc, wires, of.operand, *hi, *lo)
         }
     }
@@ -220,15 +253,20 @@ fn lower_all(
     alloc: Global,
     wires: &mut Wires,
     entries: &Table<Part>,
+    facts: &[Fact],
+    before: usize,
     memories: &Table<(u32, u32)>,
     calcs: &[Calc],
 ) -> Result<Vec<Part>, AllocError>
-    ensures wires { OnOk result (wires.new ≡ (low_all memories.now entries.now (map term_of calcs.now) wires.old).wires) }
-    ensures parts { IfOk result (λ ps. ps.items ≡ (low_all memories.now entries.now (map term_of calcs.now) wires.old).parts) }
+    requires { before ≤ length wires.old }
+    ensures wires { OnOk result (wires.new ≡ (low_all memories.now (entries_seen (take before wires.old) facts.now entries.now) (map term_of calcs.now) wires.old).wires) }
+    ensures parts { IfOk result (λ ps. ps.items ≡ (low_all memories.now (entries_seen (take before wires.old) facts.now entries.now) (map term_of calcs.now) wires.old).parts) }
+    ensures front { OnOk result (take before wires.new ≡ take before wires.old) }
+    ensures longer { OnOk result (before ≤ length wires.new) }
 {
     let mut parts = Vec::new(alloc);
     for calc in calcs {
-        let part = lower_calc(alloc, wires, entries, memories, calc)?;
+        let part = lower_calc(alloc, wires, entries, facts, before, memories, calc)?;
         parts.push(part)?;
     }
     Ok(parts)

@@ -3,9 +3,11 @@
 
 mod calc;
 mod declare;
+mod facts;
 mod first;
 pub mod lower;
 mod lowering;
 mod parts;
+mod reads;
 mod wires;
 mod write_ports;

@@ -9,6 +9,7 @@ ghost use Rattle.sap_lower.specs.Commands.{assigned, chosen, low_action, low_com
 ghost use Rattle.sap_lower.specs.Lowered.{first_lowering};
 
 use crate::calc::{lower_calc, nothing_yet};
+use crate::facts::{Fact, facts_of};
 use crate::first;
 use crate::parts::{Part, WritePort};
 use crate::wires::Wires;
@@ -111,10 +112,30 @@ impl Lowering {
     ) -> Result<(), AllocError>
         ensures { OnOk result (self.new ≡ low_action memories.now self.old (term_of cmd.now.when) (action_of cmd.now.act)) }
     {
-        let when = lower_calc(alloc, &mut self.wires, &self.entries, memories, &cmd.when)?;
+        let nothing: &[Fact] = &[];
+        let when = lower_calc(
+            alloc,
+            &mut self.wires,
+            &self.entries,
+            nothing,
+            0,
+            memories,
+            &cmd.when,
+        )?;
+        let before = self.wires.len();
+        let facts = facts_of(alloc, &self.wires, &when.operand)?;
+        let facts = facts.as_slice();
         match &cmd.act {
             Act::Set(name, value) => {
-                let value = lower_calc(alloc, &mut self.wires, &self.entries, memories, value)?;
+                let value = lower_calc(
+                    alloc,
+                    &mut self.wires,
+                    &self.entries,
+                    facts,
+                    before,
+                    memories,
+                    value,
+                )?;
                 self.set(alloc, name, when.operand, value.operand)
             }
             Act::Put {
@@ -122,8 +143,24 @@ impl Lowering {
                 index,
                 value,
             } => {
-                let index = lower_calc(alloc, &mut self.wires, &self.entries, memories, index)?;
-                let value = lower_calc(alloc, &mut self.wires, &self.entries, memories, value)?;
+                let index = lower_calc(
+                    alloc,
+                    &mut self.wires,
+                    &self.entries,
+                    facts,
+                    before,
+                    memories,
+                    index,
+                )?;
+                let value = lower_calc(
+                    alloc,
+                    &mut self.wires,
+                    &self.entries,
+                    facts,
+                    before,
+                    memories,
+                    value,
+                )?;
                 self.put(alloc, memory, when.operand, index.operand, value.operand)
             }
         }

@@ -1,10 +1,12 @@
 //! Helping wires, one for each right side and width.
 
-ghost use Rattle.std.specs.Prelude.{◌≡◌, [], ◌∷◌, ◌++◌, None, IfOk, OnOk, length};
+ghost use Rattle.std.specs.Prelude.{◌≡◌, [], ◌∷◌, ◌++◌, None, IfOk, OnOk, length, take};
+ghost use Rattle.std.specs.Option.{option_map};
 ghost use Rattle.sap_maps.specs.Scope.{find};
 ghost use Rattle.sap_share.specs.Keys as spec;
 ghost use Rattle.sap_share.specs.Names.{helper};
 ghost use Rattle.sap_share.specs.Rights.{rights};
+ghost use Rattle.sap_lower.specs.Facts.{right_of};
 ghost use Rattle.sap_lower.specs.Lowering.{plus, shared};
 
 use crate::parts::Part;
@@ -12,6 +14,7 @@ use sap_net::parts::{Name, Operand, Right, Wire};
 use sap_share::keys::{RightKey, key};
 use sap_share::names::helper_name;
 use sap_share::rights::known;
+use sap_text::scan::number;
 use std::alloc::{AllocError, Global};
 use std::collections::HashMap;
 use std::marker::Model;
@@ -50,6 +53,30 @@ impl Wires {
         let list = Vec::with_capacity(alloc, room)?;
         let numbers = HashMap::with_capacity(alloc, room)?;
         Ok(Wires { list, numbers })
+    }
+
+    /// The right side of the wire of this name, if it is one of the first `before`.
+    pub fn right_of(&self, before: usize, name: &Name) -> Option<&Right>
+        ensures { option_map (λ r. r.now) result ≡ right_of (take before self.now) name.now }
+    {
+        let bytes = name.as_bytes();
+        let digits = if bytes.is_empty() { bytes } else { &bytes[1..] };
+        let number = number(10, digits)?;
+        if number >= before as u64 || number >= self.list.len() as u64 {
+            return None;
+        }
+        let wire = &self.list[number as usize];
+        if wire.name.same(name) {
+            Some(&wire.right)
+        } else {
+            None
+        }
+    }
+
+    pub fn len(&self) -> usize
+        ensures { result ≡ length self.now }
+    {
+        self.list.len()
     }
 
     pub fn into_vec(self) -> Vec<Wire>

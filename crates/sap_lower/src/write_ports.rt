@@ -5,6 +5,7 @@ ghost use Rattle.sap_lower.specs.Commands.{merged_port, port_of};
 ghost use Rattle.sap_lower.specs.Lowering.{plus};
 ghost use Rattle.sap_net.specs.declared.parts.Right.TheVariants.{Choose};
 
+use crate::facts::is_zero;
 use crate::parts::WritePort;
 use crate::wires::Wires;
 use sap_net::parts::{Name, Operand, Right};
@@ -32,7 +33,7 @@ pub fn present_port(
     }
 }
 
-/// A write merged into what its memory's port did so far.
+/// A write merged into what its memory's port did so far. The first is taken as it is.
 pub fn merge(
     alloc: Global,
     wires: &mut Wires,
@@ -44,8 +45,14 @@ pub fn merge(
     ensures wires { OnOk result (wires.new ≡ (merged_port port.old when index value wires.old).wires) }
     ensures port { OnOk result (port.new ≡ (merged_port port.old when index value wires.old).port) }
 {
+    let first = is_zero(&port.enable);
     let one = Operand::Constant { width: 1, value: 1 };
     choose(alloc, wires, 1, &when, one, &mut port.enable)?;
+    if first {
+        port.index = index;
+        port.value = value;
+        return Ok(());
+    }
     choose(alloc, wires, port.bits, &when, index, &mut port.index)?;
     choose(alloc, wires, port.width, &when, value, &mut port.value)
 }
