@@ -49,11 +49,11 @@ module _ (d : Named) (within : (x y : ℕ) → (bit_or (d.code x) (d.code y) == 
   told k n i j v u a b p q same (is, at, low) =
       let o = (world d).order in
       let r = (p.refusals k i j).0 is in
-      let coded : d.code r.0 ≡ n = sym (p.refusal_levels k r.0 i j r.1) ∙ at in
+      let coded : d.code r.0 ≡ n = sym (p.refusal_levels k r.0 r.1) ∙ at in
       let below : Low o l r.0 = low_by_code low.0 r.0 (coded ∙ sym low.2) low.3 in
       let other : IsRefusedAt b.refused k r.0 =
       from_seen o l b.refused k r.0 (subst (λ (rs : List Refusal). IsRefusedAt rs k r.0) same (in_seen o l a.refused k r.0 r.1 below)) in
-      ((q.refusals k i j).1 (r.0, other), q.refusal_levels k r.0 i j other ∙ coded, low)
+      ((q.refusals k i j).1 (r.0, other), q.refusal_levels k r.0 other ∙ coded, low)
 
   pub look_alike : FineProgram d.program → (v u : Valuation) → CyclesAgree d sites l v u → CyclesLookAlike d sites l v u
   look_alike fine v u c =

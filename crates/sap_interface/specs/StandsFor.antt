@@ -2,6 +2,7 @@
 use Rattle.std.specs.Prelude.{◌≡◌, ◌<◌, ◌≤◌, ◌⊎◌, ◌↔◌, ℕ, true, false, List, [], ◌∷◌, get_or}
 use Rattle.sap_maps.specs.Maps.{Valuation}
 use Rattle.sap_meaning.specs.Program.{World, Program, root, children, is_register, is_memory, is_state, is_dynamic}
+use Rattle.sap_meaning.specs.Sites.{refused_sites, Sublist, numbers_from}
 use Rattle.sap_meaning.specs.Sized as sized
 use Rattle.sap_meaning.specs.Store.{Store, own, start, start_whole, number, level, child, Refusal}
 use Rattle.sap_net.specs.PortNames.{value_name, tag_name, refused_name, refused_level_name, seat_name, root_seat}
@@ -41,5 +42,7 @@ pub record StandsFor (d : Named) (sites : ℕ) (v : Valuation) (s : Store) (refu
   pub state_tags : (x : ℕ) → is_state (world d) x ≡ true → x < root (world d) → v.value (tag_name (name d x)) ≡ d.code (level (world d) (own x) s)
   pub seats : (p : ℕ) → p < root (world d) → 0 < children (world d) p → v.value (seat_name (name d p)) ≡ child p s
   pub root_seat : v.value root_seat ≡ child (root (world d)) s
+  -- Each refusal is at a check site of the design, in the order of the sites, and no site is refused twice.
+  pub refused_sites : Sublist (refused_sites refused) (numbers_from 1 sites)
   pub refusals : (k : ℕ) → 1 ≤ k → k ≤ sites → (v.value (refused_name k) ≡ 1) ↔ IsRefused refused k
-  pub refusal_levels : (k t : ℕ) → 1 ≤ k → k ≤ sites → IsRefusedAt refused k t → v.value (refused_level_name k) ≡ d.code t
+  pub refusal_levels : (k t : ℕ) → IsRefusedAt refused k t → v.value (refused_level_name k) ≡ d.code t

@@ -4,6 +4,7 @@ use Rattle.sap_maps.specs.Prelude.{Name, Valuation, find}
 use Rattle.sap_meaning.specs.Prelude.{is_input, is_register, is_memory, Store, Refusal}
 use Rattle.sap_net.specs.Prelude.{Net, IsNetlist, readable, shapes, AreSame, value_name, tag_name, refused_name, refused_level_name, seat_name, root_seat}
 use Rattle.sap_interface.specs.Prelude.{Named, name, world, StandsFor, declared_by, DeclaresPart, HasSeat, holds_numbers, IsInterfaceName, value_of, tag_of, state_tag_of, child_of, child_of_root, refusal_of, level_of}
+use Rattle.sap_interface.proofs.Refused.{refused_within}
 use Rattle.sap_build.specs.Copies.{through}
 use Rattle.sap_linked.proofs.Reading.{register_read, wire_read}
 
@@ -47,9 +48,11 @@ module _ (d : Named) (tag sites : ℕ) (n : Net) (rules : IsNetlist n) (declares
         state_tags = λ x is low. at_register (tag_name (name d x)) _ (state_tag_of x is low) (declares.state_tags x is low) ∙ h.state_tags x is low;
         seats = λ p low some. at_seat _ (seat_name (name d p)) (child_of p low some) (declares.seats p low some) ∙ h.seats p low some;
         root_seat = at_seat _ root_seat child_of_root declares.root_seat ∙ h.root_seat;
+        refused_sites = h.refused_sites;
         refusals = λ k from to.
             let e = at_wire (refused_name k) _ (refusal_of k from to) (declares.site_wires k from to).0 in
             ((λ one. (h.refusals k from to).0 (sym e ∙ one)), λ r. e ∙ (h.refusals k from to).1 r);
-        refusal_levels = λ k t from to is.
-            at_wire (refused_level_name k) _ (level_of k from to) (declares.site_wires k from to).1 ∙ h.refusal_levels k t from to is;
+        refusal_levels = λ k t is.
+            let b = refused_within sites refused h.refused_sites k t is in
+            at_wire (refused_level_name k) _ (level_of k b.0 b.1) (declares.site_wires k b.0 b.1).1 ∙ h.refusal_levels k t is;
       }

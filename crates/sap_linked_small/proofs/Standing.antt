@@ -11,6 +11,7 @@ use Rattle.sap_net.specs.declared.parts.Register.{Register}
 use Rattle.sap_net.specs.declared.parts.Memory.{Memory}
 use Rattle.sap_net.proofs.Exists.{run_exists}
 use Rattle.sap_interface.specs.Prelude.{IsRefused, Named, world, StandsFor, Shown, declared_by, DeclaresPart, coded_stream, CyclesStand}
+use Rattle.sap_interface.proofs.Refused.{refused_within}
 use Rattle.sap_build.specs.Copies.{through}
 use Rattle.sap_trim.specs.Alike.{ShowsAlike}
 use Rattle.sap_link.specs.Composites.{composite_run, run_of_part, StreamFits}
@@ -77,9 +78,12 @@ module _ (s : NamedSystem) (nets : ℕ → Net) (small : Net) (declares : Declar
             state_tags = λ x is inside. at_register _ _ (rest.state_tags x is inside) ∙ h.state_tags x is inside;
             seats = λ p inside some. at_register _ _ (rest.seats p inside some).2 ∙ h.seats p inside some;
             root_seat = at_register _ _ rest.root_seat.2 ∙ h.root_seat;
+            refused_sites = h.refused_sites;
             refusals = λ k from to.
                 subst (λ (z : ℕ). (z ≡ 1) ↔ IsRefused rs k) (sym (at_site s (λ (p : Shown). Seen p.0) at_ports i low k from to).0) (h.refusals k from to);
-            refusal_levels = λ k l from to is. (at_site s (λ (p : Shown). Seen p.0) at_ports i low k from to).1 ∙ h.refusal_levels k l from to is;
+            refusal_levels = λ k l is.
+                let b = refused_within (part_at s i).sites rs h.refused_sites k l is in
+                (at_site s (λ (p : Shown). Seen p.0) at_ports i low k b.0 b.1).1 ∙ h.refusal_levels k l is;
           }
 
       cycle_received : map (λ x. (observed small w).value (f x)) (names_of_inputs d) ≡ map (λ x. (observed given v).value (f x)) (names_of_inputs d)

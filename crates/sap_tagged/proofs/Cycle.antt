@@ -6,7 +6,7 @@ use Rattle.sap_meaning.proofs.ProgramLemmas.{own_kind, register_no_memory, state
 use Rattle.sap_maps.proofs.ScopeLemmas.{found_first, found_second}
 use Rattle.sap_maps.specs.Maps.{Name, Valuation}
 use Rattle.sap_meaning.specs.Program as program
-use Rattle.sap_meaning.specs.Prelude.{World, Kind, entity, nothing, root, children, width, is_input, is_register, is_memory, is_dynamic, listed, kind_is_input, kind_is_memory, own, start, next, start_whole, next_whole, owner, Store, settle, After, run_state, Tagged, given, set_inputs, root_fall, cycle, cycle_listed, run_from, first, InputsFit, StreamFits, refused_sites, RisesFrom, program_sites, ListsServe, SitesInOrder}
+use Rattle.sap_meaning.specs.Prelude.{World, Kind, entity, nothing, root, children, width, is_input, is_register, is_memory, is_dynamic, listed, kind_is_input, kind_is_memory, own, start, next, start_whole, next_whole, owner, Store, settle, After, run_state, Tagged, given, set_inputs, root_fall, cycle, cycle_listed, run_from, first, InputsFit, StreamFits, refused_sites, RisesFrom, Sublist, numbers_from, program_sites, ListsServe, SitesInOrder}
 use Rattle.sap_meaning.proofs.SitesLemmas.{numbers_rise}
 use Rattle.sap_net.specs.Names.{is_among, AreDistinct}
 use Rattle.sap_ir.specs.Prelude.{Source, readable, width_of, variable_names, memory_names, Going, first_number, first_cell, number_at_start, begun, Nested, Forest, declarations, child_does, enter, falls_of}
@@ -17,6 +17,7 @@ use Rattle.sap_ir.proofs.Declared.{distinct_front, distinct_behind, apart_lists,
 use Rattle.sap_ir.specs.Plain.Does as plain
 use Rattle.sap_net.specs.PortNames as ports
 use Rattle.sap_interface.specs.Prelude.{Named, name, world, depth, StandsFor, coded, coded_stream, CyclesStand}
+use Rattle.sap_interface.proofs.Refused.{refused_within}
 use Rattle.sap_tagged.specs.Prelude.{value_key, tag_key, seat_key, refused_key, level_key, key_name, numeral, Setting, setting_of, top_plain, variable, level_at_start, value_var, tag_var, seat_var, all_entities, shown_registers, has_own_tag, tag_registers, seat_registers, site_wires, memory_of, tags_of, plain_of, Lawful, at, has_tag, tag_slot, refused_after, AllNumbersFit, RunStands}
 use Rattle.sap_tagged.proofs.Bools.{value_within, register_within, memory_within, tagged_within}
 use Rattle.sap_tagged.proofs.KeyNames.{names_apart}
@@ -424,8 +425,8 @@ module _ (d : Named) (tag sites : ℕ) (design : Design d tag sites) where
 
   stands_for : (before : Option Valuation) (inputs : List Tagged) (t : Store) (a : After)
       → Cycles set (going before inputs) (final before inputs) a → RisesFrom 1 (refused_sites a.refused)
-      → 0 < children w n → StandsFor d sites (shown before inputs) (settle a.store) a.refused
-  stands_for before inputs t a c rises some =
+      → Sublist (refused_sites a.refused) (numbers_from 1 sites) → 0 < children w n → StandsFor d sites (shown before inputs) (settle a.store) a.refused
+  stands_for before inputs t a c rises in_order some =
       let g = final before inputs in
       let s = a.store in
       let e = settled_slots s in
@@ -449,13 +450,14 @@ module _ (d : Named) (tag sites : ℕ) (design : Design d tag sites) where
             ap g.now.value (sym (tag_known d x b)) ∙ own_level g s st x b (state_no_memory (entity w x).kind h) ∙ ap d.code (sym (e.1 x));
         seats = λ q l h. ap g.now.value (sym (seat_known d q (lt-ltb q n l))) ∙ st.seat q h ∙ sym (e.5 q);
         root_seat = ap g.now.value (sym (root_known d)) ∙ st.seat n some ∙ sym (e.5 n);
+        refused_sites = in_order;
         refusals = λ k l m.
             refusals_told k a.refused (g.now.value (ports.refused_name k))
             (ap g.now.value (sym (refused_known d k (site_bound k m))) ∙ c.refused k
             ∙ ap (refused_after k a.refused) (wire_starts before inputs (variable (key_name d (refused_key k)) 1 0)
             (in_front (site_wires d tag 1 sites) _ _ (refused_in d tag k 1 sites l (omega (arith, m))))));
-        refusal_levels = λ k u l m h.
-            ap g.now.value (sym (level_known d k (site_bound k m))) ∙ c.levels k ∙ levels_told d.code k u 1 a.refused _ rises h;
+        refusal_levels = λ k u h.
+            ap g.now.value (sym (level_known d k (site_bound k (refused_within sites a.refused in_order k u h).1))) ∙ c.levels k ∙ levels_told d.code k u 1 a.refused _ rises h;
       }
 
   rests_next : (before : Option Valuation) (inputs : List Tagged) (a : After) → Cycles set (going before inputs) (final before inputs) a
@@ -492,8 +494,11 @@ module _ (d : Named) (tag sites : ℕ) (design : Design d tag sites) where
         let o = ordered d.program design.fine inputs t in
         let listed_rise : RisesFrom 1 (program_sites d.program) = subst (λ (xs : List ℕ). RisesFrom 1 xs) (sym design.numbered) (numbers_rise 1 sites) in
         let rises : RisesFrom 1 (refused_sites (body_after inputs t).refused) = subst (λ (a : After). RisesFrom 1 (refused_sites a.refused)) e (o.1 1 listed_rise) in
+        let in_order : Sublist (refused_sites (body_after inputs t).refused) (numbers_from 1 sites) =
+        subst (λ (a : After). Sublist (refused_sites a.refused) (numbers_from 1 sites)) e
+        (subst (λ (xs : List ℕ). Sublist (refused_sites (cycle d.program inputs t).refused) xs) design.numbered o.0) in
         subst (λ (a : After). CycleStands before inputs a) (sym e)
-        (stands_for before inputs t (body_after inputs t) h rises some, rests_next before inputs (body_after inputs t) h)
+        (stands_for before inputs t (body_after inputs t) h rises in_order some, rests_next before inputs (body_after inputs t) h)
 
     runs_stand : (before : Option Valuation) (t : Store) (stream : List (List Tagged)) → StreamFits w stream → Rests before t
         → CyclesStand d sites (run_after (plain_of d tag sites) before (coded_stream d.code stream)) (run_from d.program t stream)

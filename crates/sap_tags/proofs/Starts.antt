@@ -83,8 +83,9 @@ module _ (d : Named) (tag sites : ℕ) (premises : Design d tag sites) (some : 0
         ap value (sym (tag_known d x b)) ∙ at_register (tag_register x) (in_own_tag d tag sites premises x b (own_tag_of_state x h));
     seats = λ q l h. ap value (sym (seat_known d q (lt-ltb q (root w) l))) ∙ at_register (seat_var d q) (in_seat d tag sites premises q h);
     root_seat = ap value (sym (root_known d)) ∙ at_register (seat_var d (root w)) (in_seat d tag sites premises (root w) some);
+    refused_sites = tt;
     refusals = λ k l m. refusals_told k [] (value (refused_name k)) (at_site k l m);
-    refusal_levels = λ k u l m h. absurd h;
+    refusal_levels = λ k u h. absurd h;
   }
 
 pub plain_starts : (ls : Levels) (d : DesignTree) → IsSound ls d → PlainStartsAsDesign ls d (plain_for ls d)

@@ -9,6 +9,7 @@ use Rattle.sap_net.specs.PortNames.{refused_name}
 use Rattle.sap_net.specs.PortNames as ports
 use Rattle.sap_interface.specs.Prelude.{IsRefusedAt, IsRefused, StandsFor, named_of}
 use Rattle.sap_interface.specs.Designs as interface
+use Rattle.sap_interface.proofs.Refused.{refused_among}
 use Rattle.sap_resolved.specs.Fill.{program_of}
 use Rattle.sap_stim.specs.Rows.{level_text}
 use Rattle.sap_sim.specs.Labelled.LabelledRows.{level_name}
@@ -39,18 +40,6 @@ seen_step ls d c n v first old new h e =
 
 pub no_lines : (old : List ℕ) → old ≡ old ++ []
 no_lines old = sym (append-nil old)
-
--- a site among some numbers
-beyond : (m n : ℕ) (rs : List Refusal) → Sublist (refused_sites rs) (numbers_from m n) → (k t : ℕ) → IsRefusedAt rs k t → m ≤ k
-beyond m n [] sub k t h = absurd h
-beyond m zero (r ∷ rs) sub k t h = absurd sub
-beyond m (suc n) (r ∷ rs) sub k t h = elim sub [
-  | inl q ↦ elim h [
-    | inl e ↦ (let a : r.site ≡ m = q.0 in let b : r.site ≡ k = e.0 in omega arith)
-    | inr i ↦ (let l : suc m ≤ k = beyond (suc m) n rs q.1 k t i in omega arith)
-  ]
-  | inr q ↦ (let l : suc m ≤ k = beyond (suc m) n (r ∷ rs) q k t h in omega arith)
-]
 
 -- The wires of the sites from m on, as many as n, tell the refusals of these.
 pub record Tell (ls : Levels) (v : Valuation) (m n : ℕ) (rs : List Refusal) : Type 0 where
@@ -108,7 +97,7 @@ module _ (ls : Levels) (d : DesignTree) (codes : Codes (order_of ls)) (some : 0 
         (told (suc m) n rs q.1 (behind m n r rs q.0 h))
     | inr q ↦
         let none : v.value (refused_name m) ≡ 1 → ⊥ =
-        λ one. (let i = (h.refusals m (omega arith) (omega arith)).0 one in let l : suc m ≤ m = beyond (suc m) n (r ∷ rs) q m i.0 i.1 in omega arith) in
+        λ one. (let i = (h.refusals m (omega arith) (omega arith)).0 one in let l : suc m ≤ m = (refused_among (suc m) n (r ∷ rs) q m i.0 i.1).0 in omega arith) in
         told (suc m) n (r ∷ rs) q (later m n (r ∷ rs) h) ∙ ap (λ (xs : List ℕ). xs ++ seen_lines ls d c (suc m) n v) (sym (no_line m none))
   ]
 
@@ -118,4 +107,4 @@ module _ (ls : Levels) (d : DesignTree) (codes : Codes (order_of ls)) (some : 0 
   lines_told one s rs stands sub =
       let count : interface.site_count_of d ≡ length (sites_of d) = count_is d in
       told 1 (length (sites_of d)) rs (subst (λ (ks : List ℕ). Sublist (refused_sites rs) ks) (numbers_are ls d one) sub)
-      (record { refusals = λ k p q. stands.refusals k p (omega arith); levels = λ k t p q. stands.refusal_levels k t p (omega arith) })
+      (record { refusals = λ k p q. stands.refusals k p (omega arith); levels = λ k t p q. stands.refusal_levels k t })

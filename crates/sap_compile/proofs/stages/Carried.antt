@@ -6,6 +6,7 @@ use Rattle.sap_net.specs.declared.parts.PortKind.TheVariants as kind
 use Rattle.sap_net.specs.Prelude.{Shapes, refused_name, refused_level_name}
 use Rattle.sap_interface.specs.Prelude.{Named, StandsFor, IsRefused, IsInterfaceName, Shown, HasSeat, DeclaresPart, DeclaresInterface}
 use Rattle.sap_interface.specs.Interface.{Declared}
+use Rattle.sap_interface.proofs.Refused.{refused_within}
 use Rattle.sap_tagged.proofs.Members.{In}
 use Rattle.sap_compile.proofs.stages.Ports.{refused_port, level_port}
 
@@ -77,7 +78,10 @@ module _ (d : Named) (tag sites : ℕ) (a : Declared) (h : DeclaresInterface d t
     state_tags = λ x k l. same.registers _ _ (h.part.state_tags x k l) ∙ s.state_tags x k l;
     seats = λ p l n. same.registers _ _ (h.part.seats p l n).2 ∙ s.seats p l n;
     root_seat = same.registers _ _ h.part.root_seat.2 ∙ s.root_seat;
+    refused_sites = s.refused_sites;
     refusals = λ k i j.
         subst (λ (z : ℕ). (z ≡ 1) ↔ IsRefused rs k) (sym (same.wires _ _ (refused_shown k i j) (h.part.site_wires k i j).0)) (s.refusals k i j);
-    refusal_levels = λ k l i j r. same.wires _ _ (level_shown k i j) (h.part.site_wires k i j).1 ∙ s.refusal_levels k l i j r;
+    refusal_levels = λ k l r.
+        let b = refused_within sites rs s.refused_sites k l r in
+        same.wires _ _ (level_shown k b.0 b.1) (h.part.site_wires k b.0 b.1).1 ∙ s.refusal_levels k l r;
   }

@@ -29,8 +29,9 @@ stands_equally d sites v w values cells s rs h = record {
   state_tags = λ x k l. values _ ∙ h.state_tags x k l;
   seats = λ p l n. values _ ∙ h.seats p l n;
   root_seat = values _ ∙ h.root_seat;
+  refused_sites = h.refused_sites;
   refusals = λ k i j. subst (λ (z : ℕ). (z ≡ 1) ↔ IsRefused rs k) (sym (values (refused_name k))) (h.refusals k i j);
-  refusal_levels = λ k t i j r. values _ ∙ h.refusal_levels k t i j r;
+  refusal_levels = λ k t r. values _ ∙ h.refusal_levels k t r;
 }
 
 -- registers
