@@ -1,7 +1,7 @@
 -- A file that was opened, read and finished, or not to its end.
-use Rattle.sap_lemmas.proofs.Common.{◌≡◌, ℕ, ◌+◌, ◌^◌, ◌<◌, ◌≤◌, List, ◌++◌, length, drop, refl, sym, ◌∙◌, ap, subst, arith, inr, Option, Some, None, option_map, IfSome, IsSome, Result, Ok, Err, IfOk}
+use Rattle.sap_lemmas.proofs.Common.{◌≡◌, ℕ, ◌+◌, ◌^◌, ◌<◌, ◌≤◌, List, ◌++◌, length, drop, refl, sym, ◌∙◌, ap, subst, arith, inl, inr, length-append, Option, Some, None, option_map, IfSome, IsSome, Result, Ok, Err, IfOk}
 use Rattle.sap_desk.specs.Desk.{Told, Use, closed, reads, at_number, blame_at, blamed, bytes_of, moved, moved_use, name_if_open, name_if_reading, opened, rest_of, rest_of_use}
-use Rattle.sap_desk.specs.Whole.{Between, FailedReading, IsFront, IsFrontOf, LeftOpen, OneMore}
+use Rattle.sap_desk.specs.Whole.{Between, FailedReading, IsFront, IsFrontOf, IsReadTo, LeftOpen, OneMore, StandsWithin, StoodWithin}
 use Rattle.sap_desk.specs.Whole.IsFront.{all, more}
 use Rattle.sap_desk.proofs.Steps.{at_number-keeps, at_number-same, at_number-twice, file_there}
 use Rattle.sap_desk.proofs.WholeFiles.{blame_is, one_more, same_channels}
@@ -28,6 +28,21 @@ module _ (channel count : ℕ) (name : List ℕ) (t : Told) where
     channels = same_channels channel (reads name (0 + count)) (t.written channel) t _ above fresh refl read_uses
         (sym (at_number-keeps channel (t.written channel) t.written refl));
     uses = inr (still_open above fresh);
+  }
+
+  -- where it stands then
+  stands_within : (limit : ℕ) → 2 < channel → t.uses channel ≡ closed → IsReadTo limit (rest_of (opened channel name t) channel) count
+      → StandsWithin limit name t t.uses (moved channel count (opened channel name t)).uses
+  stands_within limit above fresh read = record {
+    channel = channel;
+    above = above;
+    fresh = fresh;
+    position = 0 + count;
+    uses = read_uses;
+    read =
+        let whole : rest_of (opened channel name t) channel ≡ bytes_of t name = ap (rest_of_use (opened channel name t)) opened_use in
+        let from_start : count ≡ 0 + count = omega arith in
+        subst (λ (n : ℕ). IsReadTo limit (bytes_of t name) n) from_start (subst (λ (bytes : List ℕ). IsReadTo limit bytes count) whole read);
   }
 
   use_there : (moved channel count (opened channel name t)).uses channel ≡ reads name (0 + count)
@@ -62,6 +77,44 @@ module _ (channel count : ℕ) (name : List ℕ) where
   not_finished above None one two new fresh a b c = tt
   not_finished above (Some t) one two new fresh a b c =
       rw (c, b, a, blame_is channel name t above) (left_open channel count name t _ above fresh (ap name_if_open (use_there channel count name t)))
+
+-- it could not be opened
+pub stood_unopened : (limit : ℕ) (name : List ℕ) (old new : Option Told) → new ≡ option_map (blamed name) old → Between old new (StoodWithin limit name)
+stood_unopened limit name None new is = tt
+stood_unopened limit name (Some t) new is = rw is (inl refl)
+
+-- how far the file was read
+module _ (channel count limit : ℕ) (name : List ℕ) where
+  pub stood_unread : 2 < channel → (old one new : Option Told) → IfSome old (λ t. t.uses channel ≡ closed) → one ≡ option_map (opened channel name) old
+      → IfSome one (λ t. IsReadTo limit (rest_of t channel) count)
+      → new ≡ option_map (λ t. blamed (name_if_reading (t.uses channel)) (moved channel count t)) one → Between old new (StoodWithin limit name)
+  stood_unread above None one new fresh a read b = tt
+  stood_unread above (Some t) one new fresh a read b = rw (b, a) (inr (stands_within channel count name t limit above fresh (rw a at read)))
+
+  pub stood_unfinished : 2 < channel → (old one two new : Option Told) → IfSome old (λ t. t.uses channel ≡ closed) → one ≡ option_map (opened channel name) old
+      → IfSome one (λ t. IsReadTo limit (rest_of t channel) count) → two ≡ option_map (moved channel count) one
+      → new ≡ option_map (λ t. blame_at channel (name_if_open (t.uses channel)) t) two → Between old new (StoodWithin limit name)
+  stood_unfinished above None one two new fresh a read b c = tt
+  stood_unfinished above (Some t) one two new fresh a read b c =
+      rw (c, b, a, blame_is channel name t above) (inr (stands_within channel count name t limit above fresh (rw a at read)))
+
+-- what was got is no more than there was
+pub read_to : (channel limit count behind : ℕ) (bytes : List ℕ) (old : Option Told) → length bytes ≡ count → count ≤ limit + 4096
+    → IfSome old (λ t. bytes ++ drop behind (rest_of t channel) ≡ rest_of t channel) → IfSome old (λ t. IsReadTo limit (rest_of t channel) count)
+read_to channel limit count behind bytes None size most h = tt
+read_to channel limit count behind bytes (Some t) size most h = record {
+  within = omega (arith, size, ap length h, length-append bytes (drop behind (rest_of t channel)));
+  most = most;
+}
+
+-- what is got whole of a file is a front of it
+pub front_to : (channel limit : ℕ) (bytes : List ℕ) (old : Option Told) → length bytes ≤ limit + 4096 → IfSome old (λ t. IsFront limit (rest_of t channel) bytes)
+    → IfSome old (λ t. IsReadTo limit (rest_of t channel) (length bytes))
+front_to channel limit bytes None most h = tt
+front_to channel limit bytes (Some t) most h = record { within = shorter (rest_of t channel) h; most = most } where
+  shorter : (whole : List ℕ) → IsFront limit whole bytes → length bytes ≤ length whole
+  shorter whole (all is) = omega (arith, ap length is)
+  shorter whole (more long rest is) = omega (arith, ap length is, length-append bytes rest)
 
 -- what is got of a channel that was just opened is got of the file
 
@@ -101,3 +154,25 @@ pub whole_read : {E : Type 0} (limit : ℕ) (name : List ℕ) (old : Option Told
     → IfOk r (λ bytes. IfSome old (IsFrontOf limit name bytes)) → IfOk r (λ bytes. IfSome old (λ t. t.files name ≡ Some bytes))
 whole_read limit name old (Ok bytes) large short h = whole_file limit name bytes old (omega (arith, large, short)) h
 whole_read limit name old (Err e) large short h = tt
+
+-- how many bytes a channel gave that was just opened, and no other gave any
+pub given_of : (channel count : ℕ) (old one two three : ℕ → ℕ) → one ≡ at_number channel 0 old → two ≡ at_number channel (one channel + count) one → three ≡ two
+    → three ≡ at_number channel count old
+given_of channel count old one two three opened_now read same =
+    let sum : one channel + count ≡ count = ap (λ (f : ℕ → ℕ). f channel + count) opened_now ∙ ap (λ (n : ℕ). n + count) (at_number-same channel 0 old) ∙ omega arith in
+    same ∙ read ∙ ap (λ (n : ℕ). at_number channel n one) sum ∙ ap (at_number channel count) opened_now ∙ at_number-twice channel 0 count old
+
+-- so said of a channel that is read on
+
+pub gave_none : (channel : ℕ) (old : ℕ → ℕ) → old ≡ at_number channel (old channel + 0) old
+gave_none channel old = sym (at_number-keeps channel (old channel + 0) old (omega arith))
+
+pub gave_more : (channel len count size : ℕ) (old mid new : ℕ → ℕ) → mid ≡ at_number channel (old channel + len) old
+    → new ≡ at_number channel (mid channel + count) mid → size ≡ len + count → new ≡ at_number channel (old channel + size) old
+gave_more channel len count size old mid new so_far further sum =
+    let here : mid channel ≡ old channel + len = ap (λ (f : ℕ → ℕ). f channel) so_far ∙ at_number-same channel (old channel + len) old in
+    let all : mid channel + count ≡ old channel + size = omega (arith, here, sum) in
+    further
+    ∙ ap (λ (n : ℕ). at_number channel n mid) all
+    ∙ ap (at_number channel (old channel + size)) so_far
+    ∙ at_number-twice channel (old channel + len) (old channel + size) old

@@ -56,6 +56,29 @@ pub data IsFront (limit : ℕ) (whole part : List ℕ) : Type 0 where
   all : part ≡ whole → IsFront limit whole part
   more : limit < length part → (rest : List ℕ) → part ++ rest ≡ whole → IsFront limit whole part
 
+-- This many bytes of a text are read by reading until more than `limit` bytes were got, or its end: a piece of at most 4096 bytes is asked for only
+-- where no more than the limit were got before it.
+pub record IsReadTo (limit : ℕ) (bytes : List ℕ) (count : ℕ) : Type 0 where
+  pub within : count ≤ length bytes
+  pub most : count ≤ limit + 4096
+
+-- a channel that wasn't open stands in the file of a name, which is read until more than `limit` bytes were got, and every other is as before
+pub record StandsWithin (limit : ℕ) (name : List ℕ) (t : Told) (before after : ℕ → Use) : Type 0 where
+  pub channel : ℕ
+  pub above : 2 < channel
+  pub fresh : before channel ≡ closed
+  pub position : ℕ
+  pub uses : after ≡ at_number channel (reads name position) before
+  pub read : IsReadTo limit (bytes_of t name) position
+
+-- what is open after a failed call on such a file: what was open before, and the channel of that call where it has one
+abbrev pub OpenWithin : (limit : ℕ) → (name : List ℕ) → Told → (before after : ℕ → Use) → Type 0
+OpenWithin limit name t before after = (after ≡ before) ⊎ StandsWithin limit name t before after
+
+-- so it is open
+abbrev pub StoodWithin : (limit : ℕ) → List ℕ → Told → Told → Type 0
+StoodWithin limit name t n = OpenWithin limit name t t.uses n.uses
+
 -- this is got of the file of a name
 pub record IsFrontOf (limit : ℕ) (name part : List ℕ) (t : Told) : Type 0 where
   pub whole : List ℕ

@@ -133,6 +133,16 @@ module _ (base shows : Shows) (back : (lines : List (List Given)) (text : List �
     shown = shown;
   }
 
+  -- so those are that the bytes give which were read
+  part_given : (bytes gained : List ℕ) → printed_text base ls fs bytes gained → IsPartShown base ls fs bytes gained
+  part_given bytes gained given_so = record {
+    lines = (stimulus_of ls fs bytes).stream;
+    more = [];
+    stream = sym (append-nil (stimulus_of ls fs bytes).stream);
+    rest = [];
+    shown = subst (base (stimulus_of ls fs bytes).stream) (sym (append-nil gained)) given_so;
+  }
+
   -- the bytes before the failed read don't tell the next line
   abbrev WantsMore : Told → Type 0
   WantsMore m = IsDecided (r.pending ++ take k (rest_of m channel)) → ⊥
@@ -166,6 +176,7 @@ module _ (base shows : Shows) (back : (lines : List (List Given)) (text : List �
         gained = so.gained;
         going = going_blamed channel (given + k) so.gained (name_if_reading (m.uses channel)) t (moved channel k m) (going_read channel given so.gained t m so.going k);
         part = part_of lines (rest_of m channel) so.gained t (follows_all lines t m so) (back (cycles_of lines) (so.gained ++ waiting) so.shown);
+        part_read = part_given (take (given + k) (rest_of t channel)) so.gained (written_now lines quiet t m so wants);
         needed = needed_now lines quiet t m so wants (given + k) (omega arith);
         written = written_now lines quiet t m so wants;
         blame = name;
@@ -232,26 +243,31 @@ module _ (base shows later : Shows) (was : (lines : List (List Given)) (text : L
         ∙ sym (append_assoc so.gained waiting text) in
         let shown : later (cycles_of lines ++ replicate first s.line.inputs) ((so.gained ++ waiting) ++ text) = adds (cycles_of lines) (so.gained ++ waiting) behind is so.shown in
         let left : List ℕ = drop (given + k) (rest_of t channel) in
-        let rest : Parsed = to_come ls s left in
         let follows : Follows ls fs (rest_of t channel) (lines ++ s.line ∷ []) s left
         = subst (λ (bytes : List ℕ). Follows ls fs bytes (lines ++ s.line ∷ []) s left) (take-append-drop (given + k) (rest_of t channel))
         (line_follows ls fs channel given k lines r s law few fields counts base shows was waiting quiet t m so read left) in
+        let front : List ℕ = take (given + k) (rest_of t channel) in
+        let follows_read : Follows ls fs front (lines ++ s.line ∷ []) s [] = subst (λ (bytes : List ℕ). Follows ls fs bytes (lines ++ s.line ∷ []) s []) (append-nil front)
+        (line_follows ls fs channel given k lines r s law few fields counts base shows was waiting quiet t m so read []) in
+        let part_of_line : (bytes left : List ℕ) → Follows ls fs bytes (lines ++ s.line ∷ []) s left
+        → IsPartShown base ls fs bytes (so.gained ++ take part whole_text) = λ bytes left follows. record {
+          lines = cycles_of lines ++ replicate first s.line.inputs;
+          more = replicate (s.line.count - first) s.line.inputs ++ (to_come ls s left).stream;
+          stream =
+              sym (ap (λ (p : Parsed). p.stream) follows.parsed)
+              ∙ ap (λ (cycles : List (List Given)). cycles ++ (to_come ls s left).stream) (cycles_more lines s.line)
+              ∙ cycles_cut (cycles_of lines) (to_come ls s left).stream s.line first within;
+          rest = drop part whole_text;
+          shown = back (cycles_of lines ++ replicate first s.line.inputs) ((so.gained ++ take part whole_text) ++ drop part whole_text)
+              (subst (later (cycles_of lines ++ replicate first s.line.inputs)) (sym whole) shown);
+        } in
         record {
           count = given + k;
           gained = so.gained ++ take part whole_text;
           going = going_blamed channel (given + k) (so.gained ++ take part whole_text) (codes "output") t (added 1 (take part whole_text) (moved channel k m))
               (going_more channel given so.gained t m so.going k (take part whole_text));
-          part = record {
-            lines = cycles_of lines ++ replicate first s.line.inputs;
-            more = replicate (s.line.count - first) s.line.inputs ++ rest.stream;
-            stream =
-                sym (ap (λ (p : Parsed). p.stream) follows.parsed)
-                ∙ ap (λ (cycles : List (List Given)). cycles ++ rest.stream) (cycles_more lines s.line)
-                ∙ cycles_cut (cycles_of lines) rest.stream s.line first within;
-            rest = drop part whole_text;
-            shown = back (cycles_of lines ++ replicate first s.line.inputs) ((so.gained ++ take part whole_text) ++ drop part whole_text)
-                (subst (later (cycles_of lines ++ replicate first s.line.inputs)) (sym whole) shown);
-          };
+          part = part_of_line (rest_of t channel) left follows;
+          part_read = part_of_line front [] follows_read;
           needed = needed_on base shows was ls fs channel given k lines r s waiting quiet t m so read.least;
           written = written_more base ls fs (rest_of t channel) (given + k) so.gained (take part whole_text)
               (written_on base shows was ls fs channel given k lines r s waiting quiet t m so read.least);

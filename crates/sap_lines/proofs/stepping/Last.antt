@@ -6,6 +6,7 @@ use Rattle.sap_desk.specs.Whole.{Between, CutOutput}
 use Rattle.sap_lattice.specs.Levels.{Levels}
 use Rattle.sap_stim.specs.declared.fault.StimFault.{StimFault}
 use Rattle.sap_stim.specs.declared.field.Field.{Field}
+use Rattle.sap_stim.specs.declared.stimulus.Parsed.{Parsed}
 use Rattle.sap_stim.specs.Stimulus.{stimulus_of}
 use Rattle.sap_lines.specs.declared.stepping.stopped.FailedCall.TheVariants.{Output}
 use Rattle.sap_lines.specs.Stepping.Followed.{Broken, FailsFor, Followed, GoesTooFar}
@@ -41,6 +42,7 @@ module _ (shows : Shows) (ls : Levels) (fs : List Field) (channel : ℕ) (fault 
   last_cut : (part : ℕ) (t m : Told) → Followed shows ls fs channel fault waiting t m → Broken shows ls fs channel Output t (cut_at part m)
   last_cut part t m f =
       let stream = (stimulus_of ls fs (rest_of t channel)).stream in
+      let front : List ℕ = take f.count (rest_of t channel) in
       let whole : (f.gained ++ take part waiting) ++ drop part waiting ≡ f.gained ++ waiting
       = append_assoc f.gained (take part waiting) (drop part waiting) ∙ ap (λ (l : List ℕ). f.gained ++ l) (take-append-drop part waiting) in
       record {
@@ -54,6 +56,13 @@ module _ (shows : Shows) (ls : Levels) (fs : List Field) (channel : ℕ) (fault 
           stream = sym (append-nil stream);
           rest = drop part waiting;
           shown = subst (shows stream) (sym whole) f.shown;
+        };
+        part_read = record {
+          lines = (stimulus_of ls fs front).stream;
+          more = [];
+          stream = sym (append-nil (stimulus_of ls fs front).stream);
+          rest = drop part waiting;
+          shown = subst (λ (p : Parsed). shows p.stream ((f.gained ++ take part waiting) ++ drop part waiting)) (sym f.enough) (subst (shows stream) (sym whole) f.shown);
         };
         needed = f.needed;
         written = written_more shows ls fs (rest_of t channel) f.count f.gained (take part waiting) f.written;

@@ -1,5 +1,5 @@
 -- A stimulus that was opened, followed and finished, or not to its end.
-use Rattle.sap_lemmas.proofs.Common.{◌≡◌, ℕ, ◌+◌, ◌<◌, List, [], refl, sym, ◌∙◌, ap, subst, inl, inr, arith, Bool, cond, Option, Some, None, IfSome, IsSome, option_map, append-nil}
+use Rattle.sap_lemmas.proofs.Common.{◌≡◌, ℕ, ◌+◌, ◌<◌, List, [], ◌++◌, refl, sym, take, ◌∙◌, ap, subst, inl, inr, arith, Bool, cond, Option, Some, None, IfSome, IsSome, option_map, append-nil}
 use Rattle.sap_desk.specs.Desk.{Told, Use, IsOpen, IsReading, IsWriting, at_number, blame_at, blamed, bytes_of, closed, finished, moved_use, name_if_open, name_if_reading, opened, reads, rest_of, rest_of_use}
 use Rattle.sap_desk.specs.Whole.{Between}
 use Rattle.sap_desk.proofs.Steps.{at_number-keeps, at_number-same, at_number-twice, file_there, other_number}
@@ -121,6 +121,14 @@ module _ (channel : ℕ) (name : List ℕ) (above : 2 < channel) (t n : Told) (c
       blame = f.blame;
     }
 
+    -- what the bytes give that were read of the channel, since they are the first of the file
+    read_from_start : (count : ℕ) (gained : List ℕ) → IsPartShown shows ls fs (take count (rest_of (opened channel name t) channel)) gained
+        → IsPartShown shows ls fs (take (0 + count) (bytes_of t name)) gained
+    read_from_start count gained part =
+        let so_far : count ≡ 0 + count = omega arith in
+        subst (λ (n : ℕ). IsPartShown shows ls fs (take n (bytes_of t name)) gained) so_far
+        (subst (λ (bytes : List ℕ). IsPartShown shows ls fs (take count bytes) gained) whole part)
+
     pub cut_short : (why : FailedCall) → Broken shows ls fs channel why (opened channel name t) n → CutShort shows ls fs name why t n
     unfolding left_open
     cut_short why b = record {
@@ -129,6 +137,7 @@ module _ (channel : ℕ) (name : List ℕ) (above : 2 < channel) (t n : Told) (c
       blame = b.blame ∙ ap (λ (u : Use). blamed_for why (name_if_reading u)) (at_number-same channel (reads name 0) t.uses);
       stays = left_open b.count b.gained b.going why (printed_text shows ls fs) (printed_fault ls fs) b.needed b.written;
       part = subst (λ (bytes : List ℕ). IsPartShown shows ls fs bytes b.gained) whole b.part;
+      part_read = read_from_start b.count b.gained b.part_read;
     }
 
     -- it was followed to its end, and could not be finished
@@ -150,6 +159,13 @@ module _ (channel : ℕ) (name : List ℕ) (above : 2 < channel) (t n : Told) (c
             stream = sym (append-nil (stimulus_of ls fs read).stream);
             rest = [];
             shown = f.shown;
+          });
+          part_read = read_from_start f.count f.gained (record {
+            lines = (stimulus_of ls fs (take f.count read)).stream;
+            more = [];
+            stream = sym (append-nil (stimulus_of ls fs (take f.count read)).stream);
+            rest = [];
+            shown = subst (λ (p : Parsed). shows p.stream (f.gained ++ [])) (sym f.enough) f.shown;
           });
         })
 

@@ -50,12 +50,13 @@ abbrev pub blamed_for : FailedCall → (name : List ℕ) → List ℕ
 blamed_for Input name = name
 blamed_for Output name = codes "output"
 
--- a call failed on the way: the lines of a channel are shown in part
+-- a call failed on the way: the lines of a channel are shown in part, and so are those of the bytes that were read of it
 pub record Broken (shows : Shows) (ls : Levels) (fs : List Field) (channel : ℕ) (why : FailedCall) (t n : Told) : Type 0 where
   pub count : ℕ
   pub gained : List ℕ
   pub going : Going channel count gained t n
   pub part : IsPartShown shows ls fs (rest_of t channel) gained
+  pub part_read : IsPartShown shows ls fs (take count (rest_of t channel)) gained
   pub needed : IsNeeded (printed_fault ls fs) (rest_of t channel) count
   pub written : IsWritten why (printed_text shows ls fs) (rest_of t channel) count gained
   pub blame : n.blame ≡ blamed_for why (name_if_reading (t.uses channel))

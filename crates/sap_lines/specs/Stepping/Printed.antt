@@ -1,5 +1,5 @@
 -- What comes of a stimulus that is printed.
-use Rattle.std.specs.Prelude.{◌≡◌, ◌≢◌, ◌⊎◌, ℕ, ◌<◌, List, ◌++◌, Option, Some, None}
+use Rattle.std.specs.Prelude.{◌≡◌, ◌≢◌, ◌⊎◌, ℕ, ◌<◌, List, ◌++◌, take, Option, Some, None}
 use Rattle.sap_desk.specs.Desk.{Told, Use, closed, reads, at_number, blamed, bytes_of}
 use Rattle.sap_lattice.specs.Levels.{Levels}
 use Rattle.sap_stim.specs.declared.fault.StimFault.{StimFault}
@@ -43,13 +43,14 @@ pub record StaysOpen (why : FailedCall) (name : List ℕ) (text : Prints) (fault
   pub needed : IsNeeded fault bytes position
   pub written : IsWritten why text bytes position gained
 
--- a call failed once the file was open: what is written is the beginning of what is shown
+-- a call failed once the file was open: what is written is the beginning of what is shown, and no line is shown that isn't whole in the bytes that were read
 pub record CutShort (shows : Shows) (ls : Levels) (fs : List Field) (name : List ℕ) (why : FailedCall) (t n : Told) : Type 0 where
   pub gained : List ℕ
   pub grew : OutputGrew gained t n
   pub blame : n.blame ≡ blamed_for why name
   pub stays : StaysOpen why name (printed_text shows ls fs) (printed_fault ls fs) t gained t.uses n.uses
   pub part : IsPartShown shows ls fs stays.bytes gained
+  pub part_read : IsPartShown shows ls fs (take stays.position stays.bytes) gained
 
 -- what stands where a call failed: the file could not be opened, and only the blame changed; or the file was opened, and printing was cut short
 abbrev pub CallFailed : Shows → Levels → List Field → (name : List ℕ) → FailedCall → Told → Told → Type 0

@@ -1,5 +1,5 @@
 use Rattle.sap_lemmas.proofs.Common.{ap, Err}
-use Rattle.sap_desk.proofs.ReadFiles.{front_opened, not_finished, not_read, open_unfinished, open_unread}
+use Rattle.sap_desk.proofs.ReadFiles.{front_opened, front_to, given_of, not_finished, not_read, open_unfinished, open_unread, stood_unfinished, stood_unread}
 use Rattle.sap_desk.proofs.whole.read_front.Goals as goal
 
 pub returns-in_err-finish-in-Ok-clause-failed : goal.returns-in_err-finish-in-Ok-clause-failed
@@ -11,7 +11,7 @@ pub returns-in_err-finish-in-Err-Memory-clause-failed :
     goal.returns-in_err-finish-in-Err-Memory-clause-failed
 returns-in_err-finish-in-Err-Memory-clause-failed g c = λ _.
     let read = c.in-Err-Memory.ensures.memory (ap Err c.in-Err-Memory.field-0-is) in
-    not_finished _ read.0 _ c.in_ok-channel.ensures.number _ _ _ _ c.in_ok-channel.ensures.fresh c.in_ok-channel.ensures.told read.1 c.in_err-finish-in-Err-Memory.ensures.failed
+    not_finished _ read.0 _ c.in_ok-channel.ensures.number _ _ _ _ c.in_ok-channel.ensures.fresh c.in_ok-channel.ensures.told read.2 c.in_err-finish-in-Err-Memory.ensures.failed
 
 pub returns-in_ok-finish-in-Ok-clause-bytes : goal.returns-in_ok-finish-in-Ok-clause-bytes
 returns-in_ok-finish-in-Ok-clause-bytes g c = rw c.new.ensures (front_opened _ _ _ _ _ _ c.in_ok-channel.ensures.told c.in_ok-channel.ensures.there c.in-Ok.ensures.bytes)
@@ -19,7 +19,7 @@ returns-in_ok-finish-in-Ok-clause-bytes g c = rw c.new.ensures (front_opened _ _
 pub returns-in-Err-Failed-clause-failed : goal.returns-in-Err-Failed-clause-failed
 returns-in-Err-Failed-clause-failed g c = λ _.
     let read = c.in-Err-Failed.ensures.failed (ap Err c.in-Err-Failed.field-0-is) in
-    not_read _ read.0 _ c.in_ok-channel.ensures.number _ _ _ c.in_ok-channel.ensures.fresh c.in_ok-channel.ensures.told read.1
+    not_read _ read.0 _ c.in_ok-channel.ensures.number _ _ _ c.in_ok-channel.ensures.fresh c.in_ok-channel.ensures.told read.2
 
 pub returns-in_err-finish-in-Ok-clause-open : goal.returns-in_err-finish-in-Ok-clause-open
 returns-in_err-finish-in-Ok-clause-open g c = λ _ _.
@@ -29,9 +29,35 @@ returns-in_err-finish-in-Ok-clause-open g c = λ _ _.
 pub returns-in_err-finish-in-Err-Memory-clause-open : goal.returns-in_err-finish-in-Err-Memory-clause-open
 returns-in_err-finish-in-Err-Memory-clause-open g c = λ _ _.
     let read = c.in-Err-Memory.ensures.memory (ap Err c.in-Err-Memory.field-0-is) in
-    open_unfinished _ read.0 _ c.in_ok-channel.ensures.number _ _ _ _ c.in_ok-channel.ensures.fresh c.in_ok-channel.ensures.told read.1 c.in_err-finish-in-Err-Memory.ensures.failed
+    open_unfinished _ read.0 _ c.in_ok-channel.ensures.number _ _ _ _ c.in_ok-channel.ensures.fresh c.in_ok-channel.ensures.told read.2 c.in_err-finish-in-Err-Memory.ensures.failed
 
 pub returns-in-Err-Failed-clause-open : goal.returns-in-Err-Failed-clause-open
 returns-in-Err-Failed-clause-open g c = λ _ _.
     let read = c.in-Err-Failed.ensures.failed (ap Err c.in-Err-Failed.field-0-is) in
-    open_unread _ read.0 _ c.in_ok-channel.ensures.number _ _ _ c.in_ok-channel.ensures.fresh c.in_ok-channel.ensures.told read.1
+    open_unread _ read.0 _ c.in_ok-channel.ensures.number _ _ _ c.in_ok-channel.ensures.fresh c.in_ok-channel.ensures.told read.2
+
+-- where the channel stands then
+
+pub returns-in-Err-Failed-clause-stood : goal.returns-in-Err-Failed-clause-stood
+returns-in-Err-Failed-clause-stood g c = λ _.
+    let read = c.in-Err-Failed.ensures.failed (ap Err c.in-Err-Failed.field-0-is) in
+    stood_unread _ read.0 _ _ c.in_ok-channel.ensures.number _ _ _ c.in_ok-channel.ensures.fresh c.in_ok-channel.ensures.told read.1 read.2
+
+pub returns-in_err-finish-in-Ok-clause-stood : goal.returns-in_err-finish-in-Ok-clause-stood
+returns-in_err-finish-in-Ok-clause-stood g c = λ _.
+    stood_unfinished _ _ _ _ c.in_ok-channel.ensures.number _ _ _ _ c.in_ok-channel.ensures.fresh c.in_ok-channel.ensures.told
+    (front_to _ _ _ _ c.in-Ok.ensures.most c.in-Ok.ensures.bytes) c.in-Ok.ensures.told c.in_err-finish-in-Ok.ensures.failed
+
+pub returns-in_err-finish-in-Err-Memory-clause-stood : goal.returns-in_err-finish-in-Err-Memory-clause-stood
+returns-in_err-finish-in-Err-Memory-clause-stood g c = λ _.
+    let read = c.in-Err-Memory.ensures.memory (ap Err c.in-Err-Memory.field-0-is) in
+    stood_unfinished _ read.0 _ _ c.in_ok-channel.ensures.number _ _ _ _ c.in_ok-channel.ensures.fresh c.in_ok-channel.ensures.told
+    read.1 read.2 c.in_err-finish-in-Err-Memory.ensures.failed
+
+pub returns-in_ok-finish-in-Ok-clause-given : goal.returns-in_ok-finish-in-Ok-clause-given
+returns-in_ok-finish-in-Ok-clause-given g c =
+    rw c.new.ensures (
+      c.in_ok-channel.channel,
+      given_of _ _ (g.D.Desk.given c.args.desk.now) (g.D.Desk.given c.open_in.new.self) (g.D.Desk.given c.read_until.new.desk) (g.D.Desk.given c.finish.new.self)
+          c.in_ok-channel.ensures.given c.in-Ok.ensures.given c.finish.ensures.given,
+    )

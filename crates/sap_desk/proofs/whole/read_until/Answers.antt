@@ -1,6 +1,6 @@
 use Rattle.std.proofs.Common.{rules, ◌≡◌, ◌+◌, ◌++◌, ◌≤◌, ◌<◌, ◌^◌, length, take, ap, ◌∙◌, arith, length-append, length-take}
 use Rattle.sap_desk.proofs.Steps.{read_more, read_end, told_more, number-at}
-use Rattle.sap_desk.proofs.ReadFiles.{front_all, front_more}
+use Rattle.sap_desk.proofs.ReadFiles.{front_all, front_more, gave_more, read_to}
 use Rattle.sap_desk.proofs.whole.read_until.Goals as goal
 
 pub loop-piece-preserved : goal.loop-piece-preserved
@@ -19,6 +19,7 @@ loop-piece-preserved g c =
       most = omega (arith, size, few, c.len.ensures, c.loop-piece-test.true);
       short = omega (arith, given, bounded);
       given = given;
+      gave = gave_more _ _ _ _ (g.D.Desk.given c.args.desk.now) (g.D.Desk.given c.loop-piece.desk) (g.D.Desk.given c.read.new.self) c.loop-piece.invariant.gave c.in_ok-count.ensures.given size;
       faults = search rules;
       lost = search rules;
       sure = search rules;
@@ -31,7 +32,16 @@ returns-then-count-eq0-clause-bytes g c =
 
 pub returns-in_err-extend_from_slice-clause-memory :
     goal.returns-in_err-extend_from_slice-clause-memory
-returns-in_err-extend_from_slice-clause-memory g c = λ _. (_, told_more _ _ _ _ _ _ c.loop-piece.invariant.told c.in_ok-count.ensures.told)
+returns-in_err-extend_from_slice-clause-memory g c = λ _.
+    let few : c.in_ok-count.count ≤ 4096 = first_of (search rules, grind (arith, rules)) in
+    let within : c.in_ok-count.count ≤ length c.read.new.buf = search rules in
+    let size : length (c.loop-piece.bytes.items ++ take c.in_ok-count.count c.read.new.buf) ≡ length c.loop-piece.bytes.items + c.in_ok-count.count
+    = length-append c.loop-piece.bytes.items (take c.in_ok-count.count c.read.new.buf) ∙ omega (arith, length-take c.in_ok-count.count c.read.new.buf) in (
+      length c.loop-piece.bytes.items + c.in_ok-count.count,
+      read_to _ _ _ _ _ _ size (omega (arith, few, c.len.ensures, c.loop-piece-test.true))
+          (read_more _ _ _ _ _ _ _ _ c.loop-piece.invariant.told c.loop-piece.invariant.bytes c.in_ok-count.ensures.gave),
+      told_more _ _ _ _ _ _ c.loop-piece.invariant.told c.in_ok-count.ensures.told,
+    )
 
 pub returns-clause-bytes : goal.returns-clause-bytes
 returns-clause-bytes g c =

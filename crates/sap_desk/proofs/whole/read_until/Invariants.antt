@@ -1,5 +1,5 @@
 use Rattle.sap_lemmas.proofs.Common.{◌≡◌, ◌+◌, ◌-◌, ◌<◌, ◌≤◌, ◌^◌, ◌++◌, length, drop, IfSome, option_map}
-use Rattle.sap_desk.specs.Desk.{rest_of, moved}
+use Rattle.sap_desk.specs.Desk.{at_number, rest_of, moved}
 use Rattle.sap_desk.proofs.whole.read_until.Given as goal
 
 abbrev pub invariant-loop-piece : goal.invariant-loop-piece
@@ -9,6 +9,7 @@ invariant-loop-piece g l = record {
   most : length l.bytes.items ≤ l.limit + 4096;
   short : length l.bytes.items < 2 ^ 32;
   given : g.D.Desk.given l.desk l.channel ≡ g.D.Desk.given l.fn.desk l.channel + length l.bytes.items;
+  gave : g.D.Desk.given l.desk ≡ at_number l.channel (g.D.Desk.given l.fn.desk l.channel + length l.bytes.items) (g.D.Desk.given l.fn.desk);
   faults : g.D.Desk.faults l.desk ≡ g.D.Desk.faults l.fn.desk;
   lost : g.D.Desk.lost l.desk ≡ g.D.Desk.lost l.fn.desk;
   sure : g.D.Desk.sure l.fn.desk → g.D.Desk.sure l.desk;
