@@ -161,7 +161,7 @@ free_shows a t (refused why) free = absurd free
 free_shows a t (failed name) free = inl refl
 free_shows a t no_memory free = refl
 
-unread_stands : (name : List ℕ) (k : Kind) (rest : k.Value → Asks) (t : Told) (e : Ending) (before after : ℕ → Use) → OpensUnread name e before after
+unread_stands : (name : List ℕ) (k : Kind) (rest : k.Value → Asks) (t : Told) (e : Ending) (before after : ℕ → Use) → OpensUnread k.most name e t before after
     → Stands (file name k rest) t e [] before after
 unread_stands name k rest t done before after h = h
 unread_stands name k rest t (refused why) before after h = h

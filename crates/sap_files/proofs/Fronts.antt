@@ -2,7 +2,7 @@
 use Rattle.sap_lemmas.proofs.Common.{◌≡◌, ◌<◌, ◌≤◌, ◌+◌, ◌++◌, ℕ, List, length, refl, sym, ◌∙◌, ap, subst, inl, inr, arith, length-append, Option, Some, None, IfSome}
 use Rattle.sap_desk.specs.Desk.{Told}
 use Rattle.sap_desk.specs.Cause.{counted}
-use Rattle.sap_desk.specs.Whole.{Between, FailedReading, IsFront, IsFrontOf, MissingOrFar}
+use Rattle.sap_desk.specs.Whole.{Between, FailedReading, IsFront, IsFrontOf, MissingOrFar, StoodWithin}
 use Rattle.sap_desk.specs.Whole.IsFront.{all, more}
 use Rattle.sap_lattice.specs.Levels.{Levels}
 use Rattle.sap_tree.specs.Syntax.{DesignTree}
@@ -74,29 +74,30 @@ missing : (name : List ℕ) (t : Told) → MissingOrFar most_bytes name t → Is
 missing name t (inl none) = none
 missing name t (inr far) = absurd (omega (arith, far))
 
-not_read : (name : List ℕ) (F : Type 0) (t n : Told) → FailedReading name t n → (F → MissingOrFar most_bytes name t)
+not_read : (name : List ℕ) (F : Type 0) (t n : Told) → FailedReading name t n → StoodWithin most_bytes name t n → (F → MissingOrFar most_bytes name t)
     → NotRead (Some most_bytes) name (failed name) F t n
-not_read name F t n r far = record {
+not_read name F t n r stood far = record {
   files = r.files;
   output = r.channels.output;
   same = record { lines = r.channels.lines; lines_use = r.channels.lines_use; room = r.channels.room };
   blames = r.blame;
-  opens = (refl, r.uses);
+  opens = (refl, stood);
   outside = λ rose. missing name t (far rose);
 }
 
-not_read_between : (name : List ℕ) (F : Type 0) (old new : Option Told) → Between old new (FailedReading name) → (F → IfSome old (MissingOrFar most_bytes name))
-    → Between old new (NotRead (Some most_bytes) name (failed name) F)
-not_read_between name F None new r far = tt
-not_read_between name F (Some t) None r far = r
-not_read_between name F (Some t) (Some n) r far = not_read name F t n r far
+not_read_between : (name : List ℕ) (F : Type 0) (old new : Option Told) → Between old new (FailedReading name) → Between old new (StoodWithin most_bytes name)
+    → (F → IfSome old (MissingOrFar most_bytes name)) → Between old new (NotRead (Some most_bytes) name (failed name) F)
+not_read_between name F None new r stood far = tt
+not_read_between name F (Some t) None r stood far = r
+not_read_between name F (Some t) (Some n) r stood far = not_read name F t n r stood far
 
-pub front_unread : (name : List ℕ) (before after : Moment) → Between before.told after.told (FailedReading name) → after.faults ≡ counted before.faults
+pub front_unread : (name : List ℕ) (before after : Moment) → Between before.told after.told (FailedReading name)
+    → Between before.told after.told (StoodWithin most_bytes name) → after.faults ≡ counted before.faults
     → after.lost ≡ before.lost → (before.sure → after.sure) → (before.sure → IfSome before.told (MissingOrFar most_bytes name))
     → Stops (Some most_bytes) name (failed name) before after
-front_unread name before after r faults lost sure far = record {
+front_unread name before after r stood faults lost sure far = record {
   free = tt;
-  told = not_read_between name (FaultRose before after) before.told after.told r (λ rose. far rose.1);
+  told = not_read_between name (FaultRose before after) before.told after.told r stood (λ rose. far rose.1);
   faults = faults;
   lost = lost;
   sure = sure;

@@ -107,7 +107,7 @@ module _ (shows : Shows) (ls : Levels) (fs : List Field) (name : List ℕ) where
     output = s.grew.output;
     shows = cut_of whole s.stays.bytes s.gained t s.stays.file s.part;
     blames = s.blame;
-    stands = inr (why, refl, s.stays);
+    stands = inr (why, refl, s.stays, whole (take s.stays.position s.stays.bytes) s.gained s.part_read);
     same = record { lines = s.grew.lines; lines_use = stays_lines why name text faults_of t s.gained t.uses n.uses s.stays; room = s.grew.room };
     cause = inl tt;
     outside = outside;
@@ -215,10 +215,12 @@ module _ (name : List ℕ) (one other : (bytes given : List ℕ) → Type 0) (fi
 
   stands_same : (t : Told) (e : Ending) (gained : List ℕ) (before after : ℕ → Use) → Stands (prints name one first) t e gained before after
       → Stands (prints name other later) t e gained before after
+  unfolding stays_same
   stands_same t done gained before after h = h
   stands_same t (refused why) gained before after h = h
   stands_same t (failed name_blamed) gained before after (inl unopened) = inl unopened
-  stands_same t (failed name_blamed) gained before after (inr (why, is, s)) = inr (why, is, stays_same why t gained before after s)
+  stands_same t (failed name_blamed) gained before after (inr (why, is, s, (whole, given, prefix))) =
+      inr (why, is, stays_same why t gained before after s, (whole, holds (take s.position s.bytes) whole given, prefix))
   stands_same t no_memory gained before after h = h
 
   cause_same : (t : Told) (e : Ending) → IsFree e ⊎ Cause (prints name one first) t e → IsFree e ⊎ Cause (prints name other later) t e

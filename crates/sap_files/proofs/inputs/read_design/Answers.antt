@@ -11,4 +11,4 @@ pub returns-in-Err-Failed : goal.returns-in-Err-Failed
 returns-in-Err-Failed g c =
     let cut = c.in-Err-Failed.ensures in
     let is = ap Err c.in-Err-Failed.field-0-is in
-    front_unread c.args.name.now _ _ (cut.failed is) (cut.counts.failed is) cut.counts.lost_stands cut.sure (cut.cause is)
+    front_unread c.args.name.now _ _ (cut.failed is) (cut.stood is) (cut.counts.failed is) cut.counts.lost_stands cut.sure (cut.cause is)
