@@ -1,0 +1,173 @@
+"""A pair that a solver found: two states and two inputs, clocked once by a simulator, judged again and written down."""
+
+import os
+import re
+import shutil
+from dataclasses import dataclass
+
+from interface import width_for
+from judge import State, called as called_cell
+from question import renamed
+from solvers import ToolFailed, called
+
+TOP = os.path.dirname(os.path.dirname(os.path.dirname(os.path.realpath(__file__))))
+PROGRAM = os.path.join(TOP, "sapper")
+COPIES = ("_1", "_2")
+
+
+@dataclass
+class Pair:
+    """Of each copy the state before the cycle, the inputs, the wires of the check sites, and the state after it. `by` clocked it, if anything did."""
+
+    before: list
+    inputs: list
+    wires: list
+    after: list
+    by: str | None = None
+    against: list | None = None
+
+
+def pair_of(question, steps):
+    """The pair in the first step of an answer. Cells that the question doesn't look at have the numbers that they start with."""
+    interface, first = question.interface, steps[0]
+    pair = Pair([], [], [], [])
+    for number, copy in enumerate(COPIES):
+        state = state_of(question, first, number)
+        pair.before.append(state)
+        pair.inputs.append({port.name: first[port.name + copy] for port in question.module.inputs()})
+        pair.wires.append({f"{sort}_{site}": first[f"{sort}_{site}{copy}"] for site in range(1, interface.sites + 1) for sort in "cl"})
+    return pair
+
+
+def state_of(question, numbers, copy):
+    interface = question.interface
+    starts = interface.starts()
+    registers = {name: numbers.get(name + COPIES[copy], starts[name]) for name in interface.plain_registers()}
+    memories = {name: [starts[name]] * depth for name, (_, depth) in interface.arrays().items()}
+    for memory in interface.memories:
+        for place in (*question.copies.cells[memory.name], question.copies.one_more[memory.name]):
+            cell = place.cell if isinstance(place.cell, int) else numbers[place.cell]
+            for name, wires in ((f"v_{memory.name}", place.values), (f"t_{memory.name}", place.tags)):
+                if name in memories:
+                    memories[name][cell] = numbers[wires[copy]]
+    return State(registers, memories)
+
+
+# Clocking.
+
+
+def clock(pair, question, text, folder):
+    """Clocks both copies from their states, by Icarus Verilog, else by `sapper sim` if that can be done."""
+    if shutil.which("iverilog") and shutil.which("vvp"):
+        pair.by, rows = "iverilog", [by_icarus(question, text, *one, folder) for one in zip(pair.before, pair.inputs)]
+        pair.wires, pair.after = [wires for wires, _ in rows], [state for _, state in rows]
+    return pair
+
+
+def starting_in(text, state):
+    """The text of a module that starts in a state."""
+    head = text[: text.index(";") + 1]
+    items = [" ".join(item) for item in renamed(text, "") if item[0] != "initial"]
+    items += [f"initial {name} = {number};" for name, number in state.registers.items()]
+    items += [f"initial {name}[{cell}] = {number};" for name, cells in state.memories.items() for cell, number in enumerate(cells)]
+    return "\n".join([head, *items, "endmodule", ""])
+
+
+def by_icarus(question, text, state, inputs, folder):
+    """The wires of the check sites before the edge, and the state after it."""
+    module, interface = question.module, question.interface
+    lines = ["module bench;", "reg clk = 0;", "integer i;"]
+    lines += [f"reg [{port.width - 1}:0] {port.name} = {port.width}'d{inputs[port.name]};" for port in module.inputs()]
+    lines += [f"top dut(.clk(clk){''.join(f', .{port.name}({port.name})' for port in module.inputs())});", "initial begin", "#1;"]
+    wires = [f"{sort}_{site}" for site in range(1, interface.sites + 1) for sort in "cl"]
+    lines += [shown(name) for name in wires] + ["clk = 1; #1;"] + [shown(name) for name in state.registers]
+    for name, cells in state.memories.items():
+        lines.append(f'for (i = 0; i < {len(cells)}; i = i + 1) $display("{name} %0d %0d", i, dut.{name}[i]);')
+    files = {"clocked.v": starting_in(text, state), "bench.v": "\n".join([*lines, "$finish;", "end", "endmodule", ""])}
+    for name, written in files.items():
+        with open(os.path.join(folder, name), "w", encoding="ascii") as file:
+            file.write(written)
+    said = ""
+    for words in (["iverilog", "-g2005", "-s", "bench", "-o", "clocked", *files], ["vvp", "-n", "clocked"]):
+        status, said = called(words, folder)
+        if status:
+            raise ToolFailed(f"{words[0]}: {said.strip()[:200]}")
+    registers, memories = {}, {name: list(cells) for name, cells in state.memories.items()}
+    for line in said.splitlines():
+        name, *cell, number = line.split()
+        if cell:
+            memories[name][int(cell[0])] = int(number)
+        else:
+            registers[name] = int(number)
+    return {name: registers.pop(name) for name in wires}, State(registers, memories)
+
+
+def shown(name):
+    return f'$display("{name} %0d", dut.{name});'
+
+
+# Judging.
+
+
+def judged(pair, judge, answer):
+    """What is against the answer in a pair that was clocked; nothing where the pair doesn't show what it should, or isn't a pair."""
+    wrong = [*judge.inputs(*pair.inputs), *judge.states(*pair.before), *(text for state in pair.before for text in judge.kept(state))]
+    if wrong:
+        return []
+    match answer:
+        case "refusals":
+            return list(judge.refusals(*pair.wires))
+        case "states":
+            return list(judge.states(*pair.after))
+    return list(dict.fromkeys(text for state in pair.after for text in judge.kept(state)))
+
+
+# Writing.
+
+
+def table(pair, judge):
+    """The pair in lines: a name, and what it has in the first and in the second."""
+    rows = [("", "", "first", "second")]
+    interface = judge.interface
+    sections = [("before", pair.before, None), ("inputs", pair.inputs, interface.inputs), ("refused", pair.wires, None), ("after", pair.after, None)]
+    for title, both, entities in sections:
+        if not both:
+            continue
+        if title == "inputs":
+            lines = [(one.name, *(tagged(judge, numbers[f"v_{one.name}"], numbers[f"t_{one.name}"]) for numbers in both)) for one in entities]
+        elif title == "refused":
+            lines = refused_lines(judge, both)
+        else:
+            lines = list(state_lines(judge, both))
+        rows += [(title if number == 0 else "", *line) for number, line in enumerate(lines)]
+    widths = [max(len(row[column]) for row in rows) for column in range(3)]
+    return ["  " + "  ".join([*(cell.ljust(width) for cell, width in zip(row, widths)), row[3]]).rstrip() for row in rows]
+
+
+def state_lines(judge, states):
+    for entity, cell in judge.places():
+        texts = [tagged(judge, state.number(f"v_{entity.name}", cell), state.tag(entity.name, cell)) for state in states]
+        start = tagged(judge, entity.start, judge.lattice.code(entity.level))
+        if cell is None or any(text != start for text in texts):
+            yield called_cell(entity.name, cell), *texts
+    for parent, group in judge.interface.groups.items():
+        for_children = [state.registers[group.register] for state in states]
+        yield f"in {parent or 'root'}", *(group.children[child] if child < len(group.children) else f"child {child}" for child in for_children)
+    for entity in judge.interface.states:
+        yield f"state {entity.name}", *(f"@{level_text(judge, state.tag(entity.name))}" for state in states)
+
+
+def refused_lines(judge, both):
+    for site in range(1, judge.interface.sites + 1):
+        told = [f"@{level_text(judge, wires[f'l_{site}'])}" if wires[f"c_{site}"] else "no" for wires in both]
+        if told != ["no", "no"]:
+            yield f"site {site}", *told
+
+
+def tagged(judge, number, code):
+    return f"{number}@{level_text(judge, code)}"
+
+
+def level_text(judge, code):
+    level = judge.level_of(code)
+    return f"{code} (no level)" if level is None else judge.lattice.names[level]
