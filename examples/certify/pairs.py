@@ -5,7 +5,6 @@ import re
 import shutil
 from dataclasses import dataclass
 
-from interface import width_for
 from judge import State, called as called_cell
 from question import renamed
 from solvers import ToolFailed, called
@@ -45,7 +44,7 @@ def state_of(question, numbers, copy):
     registers = {name: numbers.get(name + COPIES[copy], starts[name]) for name in interface.plain_registers()}
     memories = {name: [starts[name]] * depth for name, (_, depth) in interface.arrays().items()}
     for memory in interface.memories:
-        for place in (*question.copies.cells[memory.name], question.copies.one_more[memory.name]):
+        for place in question.copies.cells(memory):
             cell = place.cell if isinstance(place.cell, int) else numbers[place.cell]
             for name, wires in ((f"v_{memory.name}", place.values), (f"t_{memory.name}", place.tags)):
                 if name in memories:

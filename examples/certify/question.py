@@ -27,16 +27,24 @@ class Place:
 
 @dataclass
 class Copies:
-    """Two copies of a module as items of Verilog. `cells` has for each memory of the design the places that are looked at, `one_more` the last of them."""
+    """Two copies of a module as items of Verilog. For each memory of the design `asked` has the cells that are asked about after the cycle, and `read` the
+    others that have a part in it."""
 
     items: list
     ports: list
-    cells: dict = field(default_factory=dict)
-    one_more: dict = field(default_factory=dict)
+    asked: dict = field(default_factory=dict)
+    read: dict = field(default_factory=dict)
+
+    def cells(self, memory):
+        return [*self.asked[memory.name], *self.read[memory.name]]
 
 
 def both(name):
     return tuple(name + copy for copy in COPIES)
+
+
+def module_text(ports, items):
+    return "\n".join([f"module question({', '.join(['input clk', *ports])});", *items, "endmodule", ""])
 
 
 def conjunction(parts):
@@ -56,21 +64,21 @@ class Question:
 
     def text(self):
         registers = [Place(one, both(f"v_{one.name}"), both(f"t_{one.name}")) for one in self.interface.registers]
-        looked_at = [place for one in self.interface.memories for place in self.copies.cells[one.name]]
-        one_more = [self.copies.one_more[one.name] for one in self.interface.memories]
+        read = [place for one in self.interface.memories for place in self.copies.read[one.name]]
+        asked = [place for one in self.interface.memories for place in self.copies.asked[one.name]]
         common = [*self.common_agreement(), *(self.agreement(place) for place in registers)]
         sane = [*self.kept_states(), *(part for place in registers for part in self.kept_place(place))]
         self.say("inputs_agree", self.inputs())
-        self.say("states", common + [self.agreement(place) for place in one_more])
-        self.say("cells_agree", [self.agreement(place) for place in looked_at])
-        self.say("kept", sane + [part for place in one_more for part in self.kept_place(place)])
-        self.say("cells_kept", [part for place in looked_at for part in self.kept_place(place)])
+        self.say("states", common + [self.agreement(place) for place in asked])
+        self.say("cells_agree", [self.agreement(place) for place in read])
+        self.say("kept", sane + [part for place in asked for part in self.kept_place(place)])
+        self.say("cells_kept", [part for place in read for part in self.kept_place(place)])
         self.say("refusals", self.refusals())
-        self.say("first", self.first([*registers, *looked_at, *one_more]))
+        self.say("first", self.first([*registers, *read, *asked]))
         self.say("premises", ["inputs_agree", "states", "cells_agree", "kept", "cells_kept"])
-        ports = ["input clk", *self.copies.ports, *(f"output {name}" for name in ANSWERS)]
+        ports = [*self.copies.ports, *(f"output {name}" for name in ANSWERS)]
         kept = [f"reg [{self.width - 1}:0] level;", "always @(posedge clk) level <= level;"]
-        return "\n".join([f"module question({', '.join(ports)});", *kept, *self.copies.items, *self.items, "endmodule", ""])
+        return module_text(ports, [*kept, *self.copies.items, *self.items])
 
     def say(self, name, parts):
         self.items.append(f"wire {name};\nassign {name} =\n  {conjunction(parts)};" if name not in ANSWERS else f"assign {name} =\n  {conjunction(parts)};")
@@ -151,19 +159,9 @@ class Question:
         parts = [part for one in self.interface.states for tag in both(f"t_{one.name}") for part in self.kept_tag(one, tag)]
         for group in self.interface.groups.values():
             parts += [f"({register} < {len(group.children)})" for register in both(group.register)]
-        for name in self.unchanged_registers():
+        for name in unchanged_registers(self.module):
             parts += [f"({register} == {self.start(name)})" for register in both(name)]
         return parts
-
-    def unchanged_registers(self):
-        """The registers that the text gives their start, or themselves, at each edge: what reads them may have that number instead."""
-        starts = self.module.starts
-        return [name for name, operand in self.module.edges.items() if operand in (name, Const(self.module.widths[name], starts[name]))]
-
-    def keeping(self):
-        """What always has the number that it starts with: these registers, and memories that nothing writes."""
-        names = [*self.unchanged_registers(), *(name for name in self.module.depths if is_never_written(self.module, name))]
-        return {name: self.module.starts[name] for name in names}
 
     def unchanged_cells(self, place):
         """Of a memory that nothing writes each cell has the number that it starts with."""
@@ -185,6 +183,17 @@ class Question:
             for name, wires in ((f"v_{place.entity.name}", place.values), (f"t_{place.entity.name}", place.tags)):
                 parts += [f"({wire} == {self.start(name)})" for wire in wires if name in self.module.depths]
         return parts
+
+
+def unchanged_registers(module):
+    """The registers that the text gives their start, or themselves, at each edge: what reads them may have that number instead."""
+    return [name for name, operand in module.edges.items() if operand in (name, Const(module.widths[name], module.starts[name]))]
+
+
+def keeping(module):
+    """What always has the number that it starts with: these registers, and memories that nothing writes."""
+    names = [*unchanged_registers(module), *(name for name in module.depths if is_never_written(module, name))]
+    return {name: module.starts[name] for name in names}
 
 
 ANSWERS = ("premises", "refusals", "states", "kept", "first")
@@ -211,24 +220,22 @@ def renamed(text, copy):
 
 def copies_of_text(interface, module, text):
     """Two copies of the items of a text. Each input is a port of its own for each copy."""
-    items, ports = ["integer i;"], []
-    for port in module.ports:
-        for name in both(port.name):
-            declared = f"[{port.width - 1}:0] {name}"
-            if port.kind == "input":
-                ports.append(f"input {declared}")
-            else:
-                items.append(f"{port.kind.removeprefix('output ')} {declared};")
-    for copy in COPIES:
-        still = {name + copy for name in module.depths if is_never_written(module, name)}
-        for item in renamed(text, copy):
-            if item[0] == "integer" or (item[0] == "initial" and not still & set(item)):
-                continue
-            items.append(" ".join(item))
+    ports = [f"input [{port.width - 1}:0] {name}" for port in module.inputs() for name in both(port.name)]
+    items = ["integer i;", *(item for copy in COPIES for item in items_of_copy(module, text, copy))]
     copies = Copies(items, ports)
     for memory in interface.memories:
         add_cells(copies, module, memory)
     return copies
+
+
+def items_of_copy(module, text, copy):
+    """The items of a copy, whose outputs are declared in front."""
+    items = [f"{port.kind.removeprefix('output ')} [{port.width - 1}:0] {port.name}{copy};" for port in module.ports if port.kind != "input"]
+    still = {name + copy for name in module.depths if is_never_written(module, name)}
+    for item in renamed(text, copy):
+        if item[0] != "integer" and (item[0] != "initial" or still & set(item)):
+            items.append(" ".join(item))
+    return items
 
 
 def add_cells(copies, module, memory):
@@ -242,7 +249,7 @@ def add_cells(copies, module, memory):
         index = f"index_{number}_of_{memory.name}"
         copies.items += [f"wire [{most}:0] {index};", f"assign {index} = {address};"]
         places.append(Place(memory, *(cell_wires(copies, module, memory, sort, index, number) for sort in "vt"), index))
-    copies.cells[memory.name], copies.one_more[memory.name] = places[1:], places[0]
+    copies.asked[memory.name], copies.read[memory.name] = places[:1], places[1:]
 
 
 def addresses_read(module, memory):

@@ -7,7 +7,7 @@ import signal
 import subprocess
 from dataclasses import dataclass, field
 
-READ = "read_verilog question.v; {more} hierarchy -check -top question; proc; flatten; opt_expr; opt_clean;"
+READ = "read_verilog question.v; {more} hierarchy -check -top question; proc; flatten; {starts} opt_expr; opt_clean;"
 # (a register that keeps its number has no start here, and `opt` would take it out: so the passes are named)
 FOR_SAT = READ + " memory_map; opt_expr; opt_merge; opt_clean; write_rtlil question.il"
 FOR_SMT = READ + " memory_collect; opt_clean; write_smt2 -wires question.smt2"
@@ -56,9 +56,9 @@ class Sat:
 
     name = "sat"
 
-    def __init__(self, folder, more=""):
+    def __init__(self, folder, more="", starts=""):
         self.folder = folder
-        yosys(FOR_SAT.format(more=more), folder)
+        yosys(FOR_SAT.format(more=more, starts=starts), folder)
 
     def ask(self, given, denied, step, level, seconds):
         """Whether there is a run in which `given` holds in step 1, and `denied` (if there is one) doesn't in this step; at any level where it is None."""
@@ -80,10 +80,10 @@ class Sat:
 class Smt:
     """An SMT solver. Each question is asked of a new process of it, which is many times as fast as one that is asked several."""
 
-    def __init__(self, name, folder, more=""):
+    def __init__(self, name, folder, more="", starts=""):
         self.name = name
         self.folder = folder
-        yosys(FOR_SMT.format(more=more), folder)
+        yosys(FOR_SMT.format(more=more, starts=starts), folder)
         with open(os.path.join(folder, "question.smt2"), encoding="ascii") as file:
             self.level_width = int(re.search(r"; yosys-smt2-register level (\d+)", file.read())[1])
 
@@ -107,11 +107,11 @@ class Smt:
         return Answer(True, steps_of_dump(os.path.join(self.folder, "answer.vcd"), step))
 
 
-def solver_for(asked, bits, folder, more=""):
+def solver_for(asked, bits, folder, more="", starts=""):
     """The solver that is asked for by name; else `sat`, or for large memories an SMT solver that is here."""
     here = [name for name in SMT_SOLVERS if shutil.which(name)] if shutil.which("yosys-smtbmc") else []
     name = asked or (here[0] if here and bits > MOST_BITS_FOR_SAT else "sat")
-    return Sat(folder, more) if name == "sat" else Smt(name, folder, more)
+    return Sat(folder, more, starts) if name == "sat" else Smt(name, folder, more, starts)
 
 
 def steps_of_dump(path, steps):
