@@ -59,7 +59,7 @@ def lattice_read(path):
 
 
 class Subject:
-    """A module with its design, as files. `found` gets each pair that is found: the level, the wire, and what is against it once it was clocked."""
+    """A module with its design, as files."""
 
     def __init__(self, lattice_file, design_file, module_file):
         self.lattice = lattice_read(lattice_file)
@@ -81,7 +81,8 @@ class Subject:
 
 
 class Certifying:
-    """Questions about a subject. `holds` stays true while each answer is the one that is wanted; `tell` gets each line."""
+    """Questions about a subject. `holds` stays true while each answer is the one that is wanted; `tell` gets each line. `found` has of each pair the level, the
+    wire and what is against it once it was clocked; `measured` of each level the seconds and the variables of its questions."""
 
     def __init__(self, subject, solver=None, seconds=600, keep=None, tell=print):
         self.subject = subject
@@ -91,6 +92,7 @@ class Certifying:
         self.tell = tell
         self.holds = True
         self.found = []
+        self.measured = []
 
     # The text, and the gates.
 
@@ -170,8 +172,9 @@ class Certifying:
             if answer.found:
                 found.append((denied, answer))
         told.append(PREMISES[self.want(solver.ask(["premises"], None, 1, code, self.seconds), True)])
-        size = f", {variables:,} variables" if variables else ""
-        self.tell(f"{name}: {', '.join(told)} ({time.monotonic() - begun:.1f} s by {solver.name}{size})")
+        seconds, size = time.monotonic() - begun, f", {variables:,} variables" if variables else ""
+        self.measured.append((seconds, variables))
+        self.tell(f"{name}: {', '.join(told)} ({seconds:.1f} s by {solver.name}{size})")
         for denied, answer in found:
             self.pair(question, level, denied, answer, folder)
 
