@@ -68,7 +68,7 @@ class Subject:
         except Fault as fault:
             raise Unusable(f"{design_file}: {fault}") from fault
         self.interface = interface_of(design)
-        self.module_file = module_file
+        self.lattice_file, self.module_file = lattice_file, module_file
         self.text = read(module_file)
         try:
             self.module = module_read(self.text, self.interface)
@@ -183,13 +183,13 @@ class Certifying:
         judge = Judge(self.subject.interface, keeping(self.subject.module), level)
         pair = pair_of(question, answer.steps)
         if folder:
-            clock(pair, question, self.subject.text, folder)
+            clock(pair, question, self.subject, folder)
         self.tell(f"  A pair for {FOUND[denied]} at {self.subject.lattice.names[level]}:")
         self.tell("\n".join(table(pair, judge)))
         against = judged(pair, judge, denied) if pair.by else None
         self.found.append((level, denied, against))
         if pair.by is None:
-            self.tell("  Not clocked: " + ("there is no iverilog." if folder else "it is one of the netlist; what is after the cycle is as the solver has it."))
+            self.tell("  Not clocked: " + ("there is nothing here that can." if folder else "it is one of the netlist; what is after the cycle is as the solver has it."))
         elif against:
             self.tell(f"  Clocked by {pair.by}, it is so: {', '.join(against)}.")
         else:

@@ -55,39 +55,73 @@ def state_of(question, numbers, copy):
 # Clocking.
 
 
-def clock(pair, question, text, folder):
-    """Clocks both copies from their states, by Icarus Verilog, else by `sapper sim` if that can be done."""
+def clock(pair, question, subject, folder):
+    """Clocks both copies from their states, by Icarus Verilog, else by `sapper sim`, which doesn't show what memories hold."""
     if shutil.which("iverilog") and shutil.which("vvp"):
-        pair.by, rows = "iverilog", [by_icarus(question, text, *one, folder) for one in zip(pair.before, pair.inputs)]
-        pair.wires, pair.after = [wires for wires, _ in rows], [state for _, state in rows]
-    return pair
+        pair.by, clocked = "iverilog", by_icarus
+    elif os.access(PROGRAM, os.X_OK) and not question.interface.memories:
+        pair.by, clocked = "sapper sim", by_sim
+    else:
+        return
+    rows = [clocked(question, subject, *one, folder) for one in zip(pair.before, pair.inputs)]
+    pair.wires, pair.after = [wires for wires, _ in rows], [state for _, state in rows]
+
+
+def written(folder, name, lines):
+    with open(os.path.join(folder, name), "w", encoding="ascii") as file:
+        file.write("\n".join([*lines, ""]))
+
+
+def wires_of_sites(question):
+    return [f"{sort}_{site}" for site in range(1, question.interface.sites + 1) for sort in "cl"]
+
+
+def by_sim(question, subject, state, inputs, folder):
+    """The same by `sapper sim`, which shows registers with tags: each register gets another for a tag, and so does one for each wire of a check site."""
+    module, widths, sites = question.module, question.module.widths, wires_of_sites(question)
+    shown_names = {f"q{name}": (widths[name], number) for name, number in state.registers.items()} | {f"of_{name}": (widths[name], 0) for name in sites}
+    ports = ["input clk", *(f"input [{port.width - 1}:0] v_q{port.name}" for port in module.inputs())]
+    for name, (width, _) in shown_names.items():
+        ports += [f"output reg [{width - 1}:0] v_{name}", f"output reg [{question.width - 1}:0] t_{name}"]
+    lines = [f"module top({', '.join(ports)});", *(f"wire [{widths[name] - 1}:0] v_q{name};" for name in sites)]
+    for item in renamed(subject.text, "", "v_q"):
+        if item[0] != "initial" and not (item[0] == "reg" and item[-2].removeprefix("v_q") in state.registers):
+            lines.append(" ".join(item))
+    for name, (width, number) in shown_names.items():
+        lines += [f"initial v_{name} = {width}'d{number};", f"initial t_{name} = {question.width}'d0;", f"always @(posedge clk) t_{name} <= {question.width}'d0;"]
+    lines += [f"always @(posedge clk) v_of_{name} <= v_q{name};" for name in sites]
+    written(folder, "clocked.v", [*lines, "endmodule"])
+    written(folder, "clocked.txt", [" ".join(str(inputs[port.name]) for port in module.inputs())])
+    status, said = called([PROGRAM, "sim", os.path.abspath(subject.lattice_file), "clocked.v", "clocked.txt"], folder)
+    if status:
+        raise ToolFailed(f"sapper sim: {said.strip()[:200]}")
+    numbers = {name: int(number) for name, number in re.findall(r" (\w+)=(\d+)@", said)}
+    return {name: numbers[f"of_{name}"] for name in sites}, State({name: numbers[f"q{name}"] for name in state.registers})
 
 
 def starting_in(text, state):
-    """The text of a module that starts in a state."""
+    """The lines of a module that starts in a state."""
     head = text[: text.index(";") + 1]
     items = [" ".join(item) for item in renamed(text, "") if item[0] != "initial"]
     items += [f"initial {name} = {number};" for name, number in state.registers.items()]
     items += [f"initial {name}[{cell}] = {number};" for name, cells in state.memories.items() for cell, number in enumerate(cells)]
-    return "\n".join([head, *items, "endmodule", ""])
+    return [head, *items, "endmodule"]
 
 
-def by_icarus(question, text, state, inputs, folder):
+def by_icarus(question, subject, state, inputs, folder):
     """The wires of the check sites before the edge, and the state after it."""
-    module, interface = question.module, question.interface
+    module = question.module
     lines = ["module bench;", "reg clk = 0;", "integer i;"]
     lines += [f"reg [{port.width - 1}:0] {port.name} = {port.width}'d{inputs[port.name]};" for port in module.inputs()]
     lines += [f"top dut(.clk(clk){''.join(f', .{port.name}({port.name})' for port in module.inputs())});", "initial begin", "#1;"]
-    wires = [f"{sort}_{site}" for site in range(1, interface.sites + 1) for sort in "cl"]
+    wires = wires_of_sites(question)
     lines += [shown(name) for name in wires] + ["clk = 1; #1;"] + [shown(name) for name in state.registers]
     for name, cells in state.memories.items():
         lines.append(f'for (i = 0; i < {len(cells)}; i = i + 1) $display("{name} %0d %0d", i, dut.{name}[i]);')
-    files = {"clocked.v": starting_in(text, state), "bench.v": "\n".join([*lines, "$finish;", "end", "endmodule", ""])}
-    for name, written in files.items():
-        with open(os.path.join(folder, name), "w", encoding="ascii") as file:
-            file.write(written)
+    written(folder, "clocked.v", starting_in(subject.text, state))
+    written(folder, "bench.v", [*lines, "$finish;", "end", "endmodule"])
     said = ""
-    for words in (["iverilog", "-g2005", "-s", "bench", "-o", "clocked", *files], ["vvp", "-n", "clocked"]):
+    for words in (["iverilog", "-g2005", "-s", "bench", "-o", "clocked", "clocked.v", "bench.v"], ["vvp", "-n", "clocked"]):
         status, said = called(words, folder)
         if status:
             raise ToolFailed(f"{words[0]}: {said.strip()[:200]}")

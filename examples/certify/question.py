@@ -206,13 +206,13 @@ def is_never_written(module, name):
 # Copies of a module's text.
 
 
-def renamed(text, copy):
-    """The items behind the ports of a text with a suffix at each name. An `initial` stays only with a memory that nothing writes."""
+def renamed(text, copy, prefix=""):
+    """The items behind the ports of a text, each as its tokens, with a suffix or a prefix at each name."""
     tokens = [found[1] for found in TOKEN.finditer(text) if found[1]]
     item, depth, behind = [], 0, tokens[tokens.index(";") + 1 : -1]
     for token in behind:
         depth += (token == "(") - (token == ")")
-        item.append(token if token in WORDS or not re.match(r"[A-Za-z_]", token) else token + copy)
+        item.append(token if token in WORDS or not re.match(r"[A-Za-z_]", token) else prefix + token + copy)
         if token == ";" and depth == 0:
             yield item
             item = []
