@@ -44,7 +44,7 @@ def put(folder, name, text):
 def measured(certifying, subject, title, form, ask):
     """A row of the table: what asking took."""
     begun, before = time.monotonic(), len(certifying.measured)
-    certifying.holds = True
+    certifying.failed.clear()
     try:
         ask()
     except ToolFailed as error:

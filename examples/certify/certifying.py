@@ -14,8 +14,8 @@ from model.design import design_of
 from model.lattice import Lattice
 from model.tokens import Fault
 from pairs import clock, judged, pair_of, table
-from question import Question, copies_of_text, keeping
-from solvers import solver_for
+from question import COPIES, Question, copies_of_text, keeping
+from solvers import Setting, solver_for
 
 # What is asked at a level: the wire that is to be 1, in which step, and what is told where no pair is found, one is, or there is no answer.
 ASKED = (
@@ -81,8 +81,9 @@ class Subject:
 
 
 class Certifying:
-    """Questions about a subject. `holds` stays true while each answer is the one that is wanted; `tell` gets each line. `found` has of each pair the level, the
-    wire and what is against it once it was clocked; `measured` of each level the seconds and the variables of its questions."""
+    """Questions about a subject. `tell` gets each line. `found` has of each pair the level, the
+    wire and what is against it once it was clocked; `failed` the names of the questions that weren't answered as wanted, `measured` of each level the seconds
+    and the variables of its questions."""
 
     def __init__(self, subject, solver=None, seconds=600, keep=None, tell=print):
         self.subject = subject
@@ -90,9 +91,14 @@ class Certifying:
         self.seconds = seconds
         self.keep = keep
         self.tell = tell
-        self.holds = True
         self.found = []
+        self.failed = []
         self.measured = []
+
+    @property
+    def holds(self):
+        """Whether each answer so far is the one that is wanted."""
+        return not self.failed
 
     # The text, and the gates.
 
@@ -102,7 +108,8 @@ class Certifying:
         copies = copies_of_text(subject.interface, subject.module, subject.text)
         question = Question(subject.interface, subject.module, copies)
         with tempfile.TemporaryDirectory() as folder:
-            solver = self.solver(question.text(), folder, "question")
+            registers = len(COPIES) * len(subject.module.edges) + 1 + len(subject.interface.memories)
+            solver = self.solver(question.text(), folder, "question", Setting(registers=registers))
             self.first(solver, question)
             for level in levels:
                 self.level(solver, question, level, folder)
@@ -117,48 +124,48 @@ class Certifying:
             beside = gates.beside()
             self.equivalence(gates, beside, folder, flow)
             question = Question(subject.interface, subject.module, gates.copies())
-            solver = self.solver(question.text(), folder, f"question_{flow}", beside, WITH_STARTS)
+            solver = self.solver(question.text(), folder, f"question_{flow}", Setting(beside, WITH_STARTS))
             self.first_of_gates(solver)
-            solver = self.solver(question.text(), folder, f"question_{flow}", beside, WITHOUT_STARTS)
+            solver = self.solver(question.text(), folder, f"question_{flow}", Setting(beside, WITHOUT_STARTS))
             self.first(solver, question)
             for level in levels:
                 self.level(solver, question, level, None)
 
-    def solver(self, text, folder, name, beside="", starts=""):
+    def solver(self, text, folder, name, setting):
         """A solver that is asked about the text of a question."""
         with open(os.path.join(folder, "question.v"), "w", encoding="ascii") as file:
             file.write(text)
         if self.keep:
             shutil.copy(os.path.join(folder, "question.v"), os.path.join(self.keep, f"{name}.v"))
-        return solver_for(self.asked_solver, self.subject.bits(), folder, beside, starts)
+        return solver_for(self.asked_solver, self.subject.bits(), folder, setting)
 
-    def want(self, answer, wanted):
-        self.holds &= answer.found is wanted
+    def want(self, name, answer, wanted):
+        if answer.found is not wanted:
+            self.failed.append(name)
         return answer.found
 
     # Questions.
 
     def equivalence(self, gates, beside, folder, flow):
         begun = time.monotonic()
-        solver = self.solver(gates.equivalence(self.subject.text), folder, f"equivalence_{flow}", beside, WITHOUT_STARTS)
-        answers = [solver.ask(["premises"], denied, step, None, self.seconds).found for denied, step in (("refusals", 1), ("states", 2))]
-        answers.append(solver.ask(["premises"], None, 1, None, self.seconds).found)
-        self.holds &= answers == [False, False, True]
-        told = "UNANSWERED" if None in answers else "they do the same" if answers == [False, False, True] else "THEY DIFFER, or can't be compared"
+        solver = self.solver(gates.equivalence(self.subject.text), folder, f"equivalence_{flow}", Setting(beside, WITHOUT_STARTS))
+        asked = ((None, 1, True), ("refusals", 1, False), ("states", 2, False))
+        answers = [self.want("gates and text", solver.ask(["premises"], denied, step, None, self.seconds), wanted) for denied, step, wanted in asked]
+        told = "UNANSWERED" if None in answers else "they do the same" if answers == [True, False, False] else "THEY DIFFER, or can't be compared"
         self.tell(f"gates and text: {told} ({time.monotonic() - begun:.1f} s)")
 
     def first(self, solver, question):
         """The first state, at all levels at once: it is the design's, agrees with itself and is kept."""
         module, starts = self.subject.module, question.interface.starts()
         told = [f"{name} STARTS WITH {module.starts[name]}, BY THE DESIGN WITH {start}" for name, start in starts.items() if module.starts[name] != start]
-        self.holds &= not told
+        self.failed += ["first"] * bool(told)
         told = told or ["is the design's"]
         for denied, texts in FIRST:
-            told.append(texts[self.want(solver.ask(["first"], denied, 1, None, self.seconds), False)])
+            told.append(texts[self.want("first", solver.ask(["first"], denied, 1, None, self.seconds), False)])
         self.tell(f"first state: {', '.join(told)}")
 
     def first_of_gates(self, solver):
-        answer = self.want(solver.ask([], "first", 1, None, self.seconds), False)
+        answer = self.want("gates start", solver.ask([], "first", 1, None, self.seconds), False)
         self.tell(f"the gates start {({False: 'as the text does', True: 'OTHERWISE THAN THE TEXT', None: 'UNANSWERED'})[answer]}")
 
     def level(self, solver, question, level, folder):
@@ -167,11 +174,11 @@ class Certifying:
         begun, told, found, variables = time.monotonic(), [], [], 0
         for denied, step, texts in ASKED:
             answer = solver.ask(["premises"], denied, step, code, self.seconds)
-            told.append(texts[self.want(answer, False)])
+            told.append(texts[self.want(denied, answer, False)])
             variables = max(variables, answer.variables or 0)
             if answer.found:
                 found.append((denied, answer))
-        told.append(PREMISES[self.want(solver.ask(["premises"], None, 1, code, self.seconds), True)])
+        told.append(PREMISES[self.want("premises", solver.ask(["premises"], None, 1, code, self.seconds), True)])
         seconds, size = time.monotonic() - begun, f", {variables:,} variables" if variables else ""
         self.measured.append((seconds, variables))
         self.tell(f"{name}: {', '.join(told)} ({seconds:.1f} s by {solver.name}{size})")

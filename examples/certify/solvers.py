@@ -7,10 +7,11 @@ import signal
 import subprocess
 from dataclasses import dataclass, field
 
-READ = "read_verilog question.v; {more} hierarchy -check -top question; proc; flatten; {starts} opt_expr; opt_clean;"
-# (a register that keeps its number has no start here, and `opt` would take it out: so the passes are named)
-FOR_SAT = READ + " memory_map; opt_expr; opt_merge; opt_clean; write_rtlil question.il"
-FOR_SMT = READ + " memory_collect; opt_clean; write_smt2 -wires question.smt2"
+# Any state may come before a cycle, and the two copies have one each. So no pass may take a register out, or make one of two that take the same number: of
+# the passes that make a circuit smaller only some are used, and none on registers. They are counted before and after.
+READ = "read_verilog question.v; {beside} hierarchy -check -top question; proc; flatten; {starts} opt_clean; {count} opt_expr; opt_clean;"
+FOR_SAT = READ + " memory_map; opt_expr; opt_merge t:$dff t:$_DFF_* %u %n; opt_clean; {count_last} write_rtlil question.il"
+FOR_SMT = READ + " memory_collect; opt_clean; {count_last} write_smt2 -wires question.smt2"
 # Memories of more bits than these are left to an SMT solver, which has arrays, if there is one.
 MOST_BITS_FOR_SAT = 2**14
 SMT_SOLVERS = ("z3", "bitwuzla", "yices", "boolector", "cvc4", "mathsat")
@@ -27,6 +28,19 @@ class Answer:
     found: bool | None
     steps: list = field(default_factory=list)
     variables: int | None = None
+
+
+@dataclass(frozen=True)
+class Setting:
+    """What is read beside a question, what is done to the starts of a netlist's registers, and how many registers a question has, where that is known."""
+
+    beside: str = ""
+    starts: str = ""
+    registers: int | None = None
+
+    def script(self, form):
+        first = "" if self.registers is None else f"select -assert-count {self.registers} t:$dff;"
+        return form.format(beside=self.beside, starts=self.starts, count=first, count_last=first.replace("-count", "-min"))
 
 
 def called(words, folder, seconds=None):
@@ -56,9 +70,9 @@ class Sat:
 
     name = "sat"
 
-    def __init__(self, folder, more="", starts=""):
+    def __init__(self, folder, setting):
         self.folder = folder
-        yosys(FOR_SAT.format(more=more, starts=starts), folder)
+        yosys(setting.script(FOR_SAT), folder)
 
     def ask(self, given, denied, step, level, seconds):
         """Whether there is a run in which `given` holds in step 1, and `denied` (if there is one) doesn't in this step; at any level where it is None."""
@@ -80,10 +94,10 @@ class Sat:
 class Smt:
     """An SMT solver. Each question is asked of a new process of it, which is many times as fast as one that is asked several."""
 
-    def __init__(self, name, folder, more="", starts=""):
+    def __init__(self, name, folder, setting):
         self.name = name
         self.folder = folder
-        yosys(FOR_SMT.format(more=more, starts=starts), folder)
+        yosys(setting.script(FOR_SMT), folder)
         with open(os.path.join(folder, "question.smt2"), encoding="ascii") as file:
             self.level_width = int(re.search(r"; yosys-smt2-register level (\d+)", file.read())[1])
 
@@ -107,11 +121,11 @@ class Smt:
         return Answer(True, steps_of_dump(os.path.join(self.folder, "answer.vcd"), step))
 
 
-def solver_for(asked, bits, folder, more="", starts=""):
+def solver_for(asked, bits, folder, setting):
     """The solver that is asked for by name; else `sat`, or for large memories an SMT solver that is here."""
     here = [name for name in SMT_SOLVERS if shutil.which(name)] if shutil.which("yosys-smtbmc") else []
     name = asked or (here[0] if here and bits > MOST_BITS_FOR_SAT else "sat")
-    return Sat(folder, more, starts) if name == "sat" else Smt(name, folder, more, starts)
+    return Sat(folder, setting) if name == "sat" else Smt(name, folder, setting)
 
 
 def steps_of_dump(path, steps):
