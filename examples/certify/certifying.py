@@ -15,7 +15,7 @@ from model.lattice import Lattice
 from model.tokens import Fault
 from pairs import clock, judged, pair_of, table
 from question import COPIES, Question, copies_of_text, keeping
-from solvers import Setting, solver_for
+from solvers import Setting, ToolFailed, solver_for
 
 # What is asked at a level: the wire that is to be 1, in which step, and what is told where no pair is found, one is, or there is no answer.
 ASKED = (
@@ -108,8 +108,8 @@ class Certifying:
         copies = copies_of_text(subject.interface, subject.module, subject.text)
         question = Question(subject.interface, subject.module, copies)
         with tempfile.TemporaryDirectory() as folder:
-            registers = len(COPIES) * len(subject.module.edges) + 1 + len(subject.interface.memories)
-            solver = self.solver(question.text(), folder, "question", Setting(registers=registers))
+            left = len(COPIES) * len(subject.module.edges) + 1
+            solver = self.solver(question.text(), folder, "question", Setting(registers=left + len(subject.interface.memories), left=left))
             self.first(solver, question)
             for level in levels:
                 self.level(solver, question, level, folder)
@@ -137,7 +137,8 @@ class Certifying:
             file.write(text)
         if self.keep:
             shutil.copy(os.path.join(folder, "question.v"), os.path.join(self.keep, f"{name}.v"))
-        return solver_for(self.asked_solver, self.subject.bits(), folder, setting)
+        # (a netlist has no memories, and only `sat` looks at where registers start)
+        return solver_for("sat" if setting.beside else self.asked_solver, self.subject.bits(), folder, setting)
 
     def want(self, name, answer, wanted):
         if answer.found is not wanted:
@@ -189,14 +190,18 @@ class Certifying:
         """Writes a pair that was found, clocked once more."""
         judge = Judge(self.subject.interface, keeping(self.subject.module), level)
         pair = pair_of(question, answer.steps)
-        if folder:
-            clock(pair, question, self.subject, folder)
+        why = "it is one of the netlist; what is after the cycle isn't shown" if folder is None else "there is nothing here that can"
+        try:
+            if folder:
+                clock(pair, question, self.subject, folder)
+        except ToolFailed as error:
+            why = str(error)
         self.tell(f"  A pair for {FOUND[denied]} at {self.subject.lattice.names[level]}:")
         self.tell("\n".join(table(pair, judge)))
         against = judged(pair, judge, denied) if pair.by else None
         self.found.append((level, denied, against))
         if pair.by is None:
-            self.tell("  Not clocked: " + ("there is nothing here that can." if folder else "it is one of the netlist; what is after the cycle is as the solver has it."))
+            self.tell(f"  Not clocked: {why}.")
         elif against:
             self.tell(f"  Clocked by {pair.by}, it is so: {', '.join(against)}.")
         else:

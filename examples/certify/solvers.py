@@ -32,15 +32,19 @@ class Answer:
 
 @dataclass(frozen=True)
 class Setting:
-    """What is read beside a question, what is done to the starts of a netlist's registers, and how many registers a question has, where that is known."""
+    """What is read beside a question, what is done to the starts of a netlist's registers, how many registers a question has, where that is known, and how
+    many of them have to be left: those that have the number of a cell aren't needed where no cell is ever written."""
 
     beside: str = ""
     starts: str = ""
     registers: int | None = None
+    left: int | None = None
 
     def script(self, form):
-        first = "" if self.registers is None else f"select -assert-count {self.registers} t:$dff;"
-        return form.format(beside=self.beside, starts=self.starts, count=first, count_last=first.replace("-count", "-min"))
+        count, last = "", ""
+        if self.registers is not None:
+            count, last = f"select -assert-count {self.registers} t:$dff;", f"select -assert-min {self.left} t:$dff;"
+        return form.format(beside=self.beside, starts=self.starts, count=count, count_last=last)
 
 
 def called(words, folder, seconds=None):
