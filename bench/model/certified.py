@@ -204,7 +204,10 @@ def damaged_case(draw, paths, levels, seed, counts):
 def drawn(program, count, seed):
     counts = Counts()
     for number in range(seed, seed + count):
-        one_case(program, number, counts)
+        try:
+            one_case(program, number, counts)
+        except ToolFailed as error:
+            counts.note(number, error)
     told, damaged = counts.told.total(), counts.damaged.total()
     print(f"{count} designs drawn at random, {counts.versions[1]} of version 1 and {counts.versions[2]} of version 2, at {counts.levels} levels in all: "
           f"{'all certified' if not counts.wrong else 'see above'}")

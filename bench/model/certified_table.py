@@ -1,4 +1,4 @@
-"""Modules that are damaged by hand, each so that it is known which question finds it at a level. Usage: python3 -m model.certified_table PROGRAM TOP"""
+"""Modules that are damaged by hand, each so that it is known which questions find it at a level. Usage: python3 -m model.certified_table PROGRAM TOP"""
 
 import os
 import sys
@@ -9,7 +9,7 @@ from certifying import Certifying, Subject
 
 from .certified import NAMES, compiled, put
 from .lattice import text_of
-from .random_lattices import chain, diamond
+from .random_lattices import chain, diamond, two
 
 
 class Row(NamedTuple):
@@ -33,6 +33,11 @@ state S enforced level0 { x := 1; goto T; }
 state T enforced level0 { x := 2; goto U; }
 state U enforced level0 { x := 3; goto S; }
 """
+FIXED = text_of(*two()), """input a : 8;
+mem m : 8[2] dynamic;
+reg x : 8 dynamic;
+state S enforced low { m[0] := a; x := m[1]; goto S; }
+"""
 EDGE = "always @(posedge clk) "
 ROWS = [
     Row("an input at high is written to a register at low", "handler", "t_a ? 8'd9 : v_a", "t_a ? v_a : 8'd9", "low", {"states"}),
@@ -43,6 +48,8 @@ ROWS = [
     Row("a site that is never refused tells nothing", "handler", "assign c_1 = t_a;", "assign c_1 = 1'd0;", "low", set()),
     Row("a write to a dynamic memory doesn't raise its tag", "memory", f"{EDGE}t_m <= n0;", f"{EDGE}t_m <= t_m;", "low", {"states"}),
     Row("a refused write to an enforced memory is done", "memory", f"{EDGE}if (n5) v_k[n7]", f"{EDGE}if (1'd1) v_k[v_a]", "low", {"states"}),
+    Row("a memory that is only written at a fixed place, undamaged", FIXED, "endmodule", "endmodule", "low", set()),
+    Row("the same, and a write doesn't raise its tag", FIXED, f"{EDGE}t_m <= n0;", f"{EDGE}t_m <= t_m;", "low", {"states"}),
     Row("which state is current depends on a secret, and its tag is low", "modes", f"{EDGE}t_Off <= n17;", f"{EDGE}t_Off <= 1'd0;", "low", {"states"}),
     Row("a tag that is retagged in sight depends on a secret", RETAGGED, f"{EDGE}t_z <= 2'd2;",
         f"wire [1:0] n900;\nassign n900 = v_s ? 2'd2 : 2'd1;\n{EDGE}t_z <= n900;", "low", {"states"}),
@@ -92,7 +99,7 @@ def main():
             if found:
                 wrong += 1
                 print(f"{row.shows}: {found}")
-    print(f"{len(ROWS)} modules damaged by hand, {'each' if not wrong else len(ROWS) - wrong} answered as it is to be")
+    print(f"{len(ROWS)} modules worked out by hand, {'each' if not wrong else len(ROWS) - wrong} answered as it is to be")
     return bool(wrong)
 
 

@@ -10,7 +10,7 @@ from solvers import ToolFailed, called, yosys
 
 # How netlists are made. State registers keep the numbers that the text gives them, and memories are made of registers.
 FLOWS = {"synth": "synth -flatten -top top", "synth_ice40": "synth_ice40 -nobram -top top"}
-SYNTHESIS = 'read_verilog top.v; setattr -set fsm_encoding "none" w:*; hierarchy -check -top top; proc; memory_map; {flow}; write_json netlist.json'
+SYNTHESIS = 'read_verilog -nomem2reg top.v; setattr -set fsm_encoding "none" w:*; hierarchy -check -top top; proc; memory_map; {flow}; write_json netlist.json'
 # What is read beside a question. Where any state may be the first, the starts of registers are taken away.
 BESIDE = "read_json gates.json; {cells}"
 WITH_STARTS = "dffunmap;"

@@ -36,9 +36,11 @@ class Judge:
         return next((level for level in self.lattice.levels if self.lattice.code(level) == code), None)
 
     def seen(self, code):
-        """No tag that is no code is seen."""
+        """Whether the level of a tag is at or below the observer's. Of a tag that is no code the bits count, as in the question."""
         level = self.level_of(code)
-        return level is not None and self.lattice.is_at_or_below(level, self.level)
+        if level is None:
+            return code & ~self.lattice.code(self.level) == 0
+        return self.lattice.is_at_or_below(level, self.level)
 
     def alike(self, one, other):
         """Two pairs of a number and a code: equal and seen, or neither seen."""

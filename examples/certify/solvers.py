@@ -8,8 +8,9 @@ import subprocess
 from dataclasses import dataclass, field
 
 # Any state may come before a cycle, and the two copies have one each. So no pass may take a register out, or make one of two that take the same number: of
-# the passes that make a circuit smaller only some are used, and none on registers. They are counted before and after.
-READ = "read_verilog question.v; {beside} hierarchy -check -top question; proc; flatten; {starts} opt_clean; {count} opt_expr; opt_clean;"
+# the passes that make a circuit smaller only some are used, and none on registers. They are counted before and after. (Without `-nomem2reg` a memory that is
+# only written at a fixed place would be registers, and those of its other cells would have no number.)
+READ = "read_verilog -nomem2reg question.v; {beside} hierarchy -check -top question; proc; flatten; {starts} opt_clean; {count} opt_expr; opt_clean;"
 FOR_SAT = READ + " memory_map; opt_expr; opt_merge t:$dff t:$_DFF_* %u %n; opt_clean; {count_last} write_rtlil question.il"
 FOR_SMT = READ + " memory_collect; opt_clean; {count_last} write_smt2 -wires question.smt2"
 # Memories of more bits than these are left to an SMT solver, which has arrays, if there is one.
