@@ -6,6 +6,7 @@ import tempfile
 from typing import NamedTuple
 
 from certifying import Certifying, Subject
+from gates import FLOWS
 
 from .certified import NAMES, compiled, put
 from .lattice import text_of
@@ -60,6 +61,13 @@ ROWS = [
     Row("a tag that always has a number that is no code", THREE, f"initial t_y = 2'd3;", "initial t_y = 2'd2;", "level0", {"first"}),
     Row("the same, and it keeps that number", THREE, f"{EDGE}t_y <= 2'd3;", f"{EDGE}t_y <= t_y;", "level0", set()),
 ]
+# Netlists of `handler` as they come where synthesis takes another text for the module's.
+GATES = [
+    Row("the netlist of the module", "handler", "endmodule", "endmodule", "low", set()),
+    Row("one that writes an input at high", "handler", "t_a ? 8'd9 : v_a", "t_a ? v_a : 8'd9", "low", {"gates and text", "states"}),
+    Row("one that writes another number", "handler", "t_a ? 8'd9 : v_a", "t_a ? 8'd8 : v_a", "low", {"gates and text"}),
+    Row("one that starts with another number", "handler", "initial v_y = 8'd7;", "initial v_y = 8'd6;", "low", {"gates start"}),
+]
 
 
 def files_of(row, top, folder):
@@ -69,8 +77,8 @@ def files_of(row, top, folder):
     return [put(folder, NAMES[0], row.design[0]), put(folder, NAMES[1], row.design[1]), os.path.join(folder, NAMES[2])]
 
 
-def wrong_with(row, program, top, folder):
-    """What is otherwise than the row says."""
+def wrong_with(row, program, top, folder, flow=None):
+    """What is otherwise than the row says: of the damaged text, or of the netlist that a synthesis makes of it in place of the module."""
     files = files_of(row, top, folder)
     if not compiled(program, *files):
         return "not compiled"
@@ -78,28 +86,34 @@ def wrong_with(row, program, top, folder):
         text = file.read()
     if text.count(row.old) != 1:
         return f"{row.old!r} isn't in the module once"
-    put(folder, NAMES[2], text.replace(row.old, row.new))
+    damaged = put(folder, "damaged.v", text.replace(row.old, row.new))
     lines = []
-    certifying = Certifying(Subject(*files), tell=lines.append)
-    certifying.text([certifying.subject.lattice.number[row.level]])
+    certifying = Certifying(Subject(*files[:2], files[2] if flow else damaged), tell=lines.append)
+    levels = [certifying.subject.lattice.number[row.level]]
+    if flow:
+        certifying.subject.module_file = damaged
+        certifying.gates(levels, flow)
+    else:
+        certifying.text(levels)
     told = "\n".join(lines)
     if set(certifying.failed) != row.wanted:
         return f"{sorted(set(certifying.failed))} where {sorted(row.wanted)} is wanted\n{told}"
-    if any(not against for _, _, against in certifying.found):
+    if not flow and any(not against for _, _, against in certifying.found):
         return f"the pair isn't confirmed\n{told}"
     return None
 
 
 def main():
     program, top = sys.argv[1:]
+    cases = [(row, None) for row in ROWS] + [(row, flow) for row in GATES for flow in FLOWS]
     wrong = 0
     with tempfile.TemporaryDirectory() as folder:
-        for row in ROWS:
-            found = wrong_with(row, program, top, folder)
+        for row, flow in cases:
+            found = wrong_with(row, program, top, folder, flow)
             if found:
                 wrong += 1
-                print(f"{row.shows}: {found}")
-    print(f"{len(ROWS)} modules worked out by hand, {'each' if not wrong else len(ROWS) - wrong} answered as it is to be")
+                print(f"{row.shows}{f', {flow}' if flow else ''}: {found}")
+    print(f"{len(ROWS)} modules and {len(cases) - len(ROWS)} netlists worked out by hand, {'each' if not wrong else len(cases) - wrong} answered as it is to be")
     return bool(wrong)
 
 
