@@ -7,6 +7,7 @@ import tempfile
 import time
 import tomllib
 
+from cells import cells_held, copies_by_cells
 from gates import FLOWS, WITH_STARTS, WITHOUT_STARTS, Gates
 from interface import NotTheDesigns, interface_of, module_read
 from judge import Judge
@@ -75,10 +76,6 @@ class Subject:
         except NotTheDesigns as error:
             raise Unusable(f"{module_file} isn't the module of {design_file}: {error}") from error
 
-    def bits(self):
-        """The bits of all memories."""
-        return sum(width * depth for width, depth in self.interface.arrays().values())
-
 
 class Certifying:
     """Questions about a subject. `tell` gets each line. `found` has of each pair the level, the
@@ -105,10 +102,11 @@ class Certifying:
     def text(self, levels):
         """All questions about the text."""
         subject = self.subject
-        copies = copies_of_text(subject.interface, subject.module, subject.text)
-        question = Question(subject.interface, subject.module, copies)
+        # (an SMT solver has arrays for memories; `sat` would need a register for each cell, and gets the cells that are looked at)
+        copies_of = copies_of_text if self.asked_solver not in (None, "sat") else copies_by_cells
+        question = Question(subject.interface, subject.module, copies_of(subject.interface, subject.module, subject.text))
         with tempfile.TemporaryDirectory() as folder:
-            left = len(COPIES) * len(subject.module.edges) + 1
+            left = len(COPIES) * (len(subject.module.edges) + (cells_held(subject.module) if copies_of is copies_by_cells else 0)) + 1
             solver = self.solver(question.text(), folder, "question", Setting(registers=left + len(subject.interface.memories), left=left))
             self.first(solver, question)
             for level in levels:
@@ -137,8 +135,8 @@ class Certifying:
             file.write(text)
         if self.keep:
             shutil.copy(os.path.join(folder, "question.v"), os.path.join(self.keep, f"{name}.v"))
-        # (a netlist has no memories, and only `sat` looks at where registers start)
-        return solver_for("sat" if setting.beside else self.asked_solver, self.subject.bits(), folder, setting)
+        # (only `sat` looks at where the registers of a netlist start)
+        return solver_for("sat" if setting.beside else self.asked_solver, folder, setting)
 
     def want(self, name, answer, wanted):
         if answer.found is not wanted:

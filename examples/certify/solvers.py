@@ -2,7 +2,6 @@
 
 import os
 import re
-import shutil
 import signal
 import subprocess
 from dataclasses import dataclass, field
@@ -13,8 +12,6 @@ from dataclasses import dataclass, field
 READ = "read_verilog -nomem2reg question.v; {beside} hierarchy -check -top question; proc; flatten; {starts} opt_clean; {count} opt_expr; opt_clean;"
 FOR_SAT = READ + " memory_map; opt_expr; opt_merge t:$dff t:$_DFF_* %u %n; opt_clean; {count_last} write_rtlil question.il"
 FOR_SMT = READ + " memory_collect; opt_clean; {count_last} write_smt2 -wires question.smt2"
-# Memories of more bits than these are left to an SMT solver, which has arrays, if there is one.
-MOST_BITS_FOR_SAT = 2**14
 SMT_SOLVERS = ("z3", "bitwuzla", "yices", "boolector", "cvc4", "mathsat")
 
 
@@ -126,11 +123,9 @@ class Smt:
         return Answer(True, steps_of_dump(os.path.join(self.folder, "answer.vcd"), step))
 
 
-def solver_for(asked, bits, folder, setting):
-    """The solver that is asked for by name; else `sat`, or for large memories an SMT solver that is here."""
-    here = [name for name in SMT_SOLVERS if shutil.which(name)] if shutil.which("yosys-smtbmc") else []
-    name = asked or (here[0] if here and bits > MOST_BITS_FOR_SAT else "sat")
-    return Sat(folder, setting) if name == "sat" else Smt(name, folder, setting)
+def solver_for(asked, folder, setting):
+    """The solver that is asked for by name; else `sat`."""
+    return Sat(folder, setting) if asked in (None, "sat") else Smt(asked, folder, setting)
 
 
 def steps_of_dump(path, steps):
