@@ -1,12 +1,14 @@
 """Modules that are damaged by hand, each so that it is known which questions find it at a level. Usage: python3 -m model.certified_table PROGRAM TOP"""
 
 import os
+import shutil
 import sys
 import tempfile
 from typing import NamedTuple
 
 from certifying import Certifying, Subject
 from gates import FLOWS
+from solvers import SMT_SOLVERS
 
 from .certified import NAMES, compiled, put
 from .lattice import text_of
@@ -77,7 +79,7 @@ def files_of(row, top, folder):
     return [put(folder, NAMES[0], row.design[0]), put(folder, NAMES[1], row.design[1]), os.path.join(folder, NAMES[2])]
 
 
-def wrong_with(row, program, top, folder, flow=None):
+def wrong_with(row, program, top, folder, flow, solver):
     """What is otherwise than the row says: of the damaged text, or of the netlist that a synthesis makes of it in place of the module."""
     files = files_of(row, top, folder)
     if not compiled(program, *files):
@@ -88,7 +90,7 @@ def wrong_with(row, program, top, folder, flow=None):
         return f"{row.old!r} isn't in the module once"
     damaged = put(folder, "damaged.v", text.replace(row.old, row.new))
     lines = []
-    certifying = Certifying(Subject(*files[:2], files[2] if flow else damaged), tell=lines.append)
+    certifying = Certifying(Subject(*files[:2], files[2] if flow else damaged), solver, tell=lines.append)
     levels = [certifying.subject.lattice.number[row.level]]
     if flow:
         certifying.subject.module_file = damaged
@@ -105,15 +107,19 @@ def wrong_with(row, program, top, folder, flow=None):
 
 def main():
     program, top = sys.argv[1:]
-    cases = [(row, None) for row in ROWS] + [(row, flow) for row in GATES for flow in FLOWS]
+    arrays = [name for name in SMT_SOLVERS if shutil.which(name) and shutil.which("yosys-smtbmc")][:1]
+    cases = [(row, None, None) for row in ROWS]
+    cases += [(row, flow, None) for row in GATES for flow in FLOWS]
+    cases += [(row, None, solver) for row in ROWS if row.design in ("memory", FIXED) for solver in arrays]
     wrong = 0
     with tempfile.TemporaryDirectory() as folder:
-        for row, flow in cases:
-            found = wrong_with(row, program, top, folder, flow)
+        for row, flow, solver in cases:
+            found = wrong_with(row, program, top, folder, flow, solver)
             if found:
                 wrong += 1
-                print(f"{row.shows}{f', {flow}' if flow else ''}: {found}")
-    print(f"{len(ROWS)} modules and {len(cases) - len(ROWS)} netlists worked out by hand, {'each' if not wrong else len(cases) - wrong} answered as it is to be")
+                print(f"{row.shows}{f', {flow or solver}' if flow or solver else ''}: {found}")
+    print(f"{len(ROWS)} modules and {len(GATES) * len(FLOWS)} netlists worked out by hand, those with memories {f'by {arrays[0]} too' if arrays else 'by sat alone'}: "
+          f"{'each' if not wrong else len(cases) - wrong} answered as it is to be")
     return bool(wrong)
 
 

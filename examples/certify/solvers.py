@@ -119,7 +119,8 @@ class Smt:
         if "Status: PASSED" in done[1]:
             return Answer(False)
         if "BMC failed!" not in done[1]:
-            raise ToolFailed(f"{self.name}: {(done[1].strip().splitlines() or ['it failed'])[-1]}")
+            last = (done[1].strip().splitlines() or ["it failed"])[-1]
+            raise ToolFailed(f"{self.name}: {re.sub(r'^##[ 0-9:]*', '', last)}")
         return Answer(True, steps_of_dump(os.path.join(self.folder, "answer.vcd"), step))
 
 
