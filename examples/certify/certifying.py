@@ -106,8 +106,8 @@ class Certifying:
         copies_of = copies_of_text if self.asked_solver not in (None, "sat") else copies_by_cells
         question = Question(subject.interface, subject.module, copies_of(subject.interface, subject.module, subject.text))
         with tempfile.TemporaryDirectory() as folder:
-            left = len(COPIES) * (len(subject.module.edges) + (cells_held(subject.module) if copies_of is copies_by_cells else 0)) + 1
-            solver = self.solver(question.text(), folder, "question", Setting(registers=left + len(subject.interface.memories), left=left))
+            least = len(COPIES) * (len(subject.module.edges) + (cells_held(subject.module) if copies_of is copies_by_cells else 0)) + 1
+            solver = self.solver(question.text(), folder, "question", Setting(registers=(least, least + len(subject.interface.memories))))
             self.first(solver, question)
             for level in levels:
                 self.level(solver, question, level, folder)

@@ -10,8 +10,8 @@ from dataclasses import dataclass, field
 # the passes that make a circuit smaller only some are used, and none on registers. They are counted before and after. (Without `-nomem2reg` a memory that is
 # only written at a fixed place would be registers, and those of its other cells would have no number.)
 READ = "read_verilog -nomem2reg question.v; {beside} hierarchy -check -top question; proc; flatten; {starts} opt_clean; {count} opt_expr; opt_clean;"
-FOR_SAT = READ + " memory_map; opt_expr; opt_merge t:$dff t:$_DFF_* %u %n; opt_clean; {count_last} write_rtlil question.il"
-FOR_SMT = READ + " memory_collect; opt_clean; {count_last} write_smt2 -wires question.smt2"
+FOR_SAT = READ + " memory_map; opt_expr; opt_merge t:$dff t:$_DFF_* %u %n; opt_clean; {count} write_rtlil question.il"
+FOR_SMT = READ + " memory_collect; opt_clean; {count} write_smt2 -wires question.smt2"
 SMT_SOLVERS = ("z3", "bitwuzla", "yices", "boolector", "cvc4", "mathsat")
 
 
@@ -30,19 +30,17 @@ class Answer:
 
 @dataclass(frozen=True)
 class Setting:
-    """What is read beside a question, what is done to the starts of a netlist's registers, how many registers a question has, where that is known, and how
-    many of them have to be left: those that have the number of a cell aren't needed where no cell is ever written."""
+    """What is read beside a question, what is done to the starts of a netlist's registers, and between which numbers that of a question's registers has to
+    be, where that is known. The registers that have a chosen cell's number aren't needed where nothing is written."""
 
     beside: str = ""
     starts: str = ""
-    registers: int | None = None
-    left: int | None = None
+    registers: tuple | None = None
 
     def script(self, form):
-        count, last = "", ""
-        if self.registers is not None:
-            count, last = f"select -assert-count {self.registers} t:$dff;", f"select -assert-min {self.left} t:$dff;"
-        return form.format(beside=self.beside, starts=self.starts, count=count, count_last=last)
+        least, most = self.registers or (0, 0)
+        count = f"select -assert-min {least} t:$dff; select -assert-max {most} t:$dff;" if self.registers else ""
+        return form.format(beside=self.beside, starts=self.starts, count=count)
 
 
 def called(words, folder, seconds=None):
