@@ -31,6 +31,12 @@ Beside it stands a model of modules and of dumps, after docs/MODULES.md and docs
     compare_verilog         a script: the script of the example beside Icarus Verilog
     measured, operators     the designs whose modules are measured, and the operators of a module beside those that Yosys leaves
 
+And beside examples/certify, which asks a solver about modules:
+
+    damages                 modules that are damaged in one place
+    certified_table, certified
+                            two scripts: modules damaged by hand, certified; those of designs drawn at random, damaged ones, and those of the examples
+
 And of the time-sliced machine, after docs/COMMANDS.md:
 
     programs                assembly, the instruction table, slices, and the texts of two programs
