@@ -125,6 +125,9 @@ def exchange(core, count, seed):
         told = core.called("twin", core.lattice, core.design, *paths, level)
         if told != f"agree at {level} for {LONG} cycles":
             sys.exit(f"neighbours {one}: twin says '{told}'")
+        refused = core.called("trace", core.lattice, core.design, paths[0])
+        if refused:
+            sys.exit(f"neighbours {one}: refused: {refused.splitlines()[0]}")
         rows, others = (core.seen(path, level) for path in paths)
         if rows != others:
             stopped(f"neighbours {one}", rows, others)
@@ -132,7 +135,7 @@ def exchange(core, count, seed):
         if lines != others:
             stopped(f"neighbours {one}", lines, others)
         seen += len(lines)
-    print(f"{count} owners with two neighbours each: their {seen} lines with cycles, and what they see of {count * LONG} rows, are the same")
+    print(f"{count} owners with two neighbours each: their {seen} lines with cycles, and what they see of {count * LONG} rows, are the same; nothing is refused")
 
 
 def differs(core):

@@ -29,7 +29,7 @@ class Core:
         self.refused = self.called("compile", self.lattice, self.design, self.module)
 
     def called(self, *words):
-        """What a command says on standard error and writes, and nothing else."""
+        """What a command writes, its line on a refused file included."""
         ran = subprocess.run([self.program, *words], stdout=subprocess.PIPE, stderr=subprocess.STDOUT, text=True, check=False)
         return ran.stdout.strip()
 

@@ -130,7 +130,7 @@ class Owner:
     def store(self, address, size, value):
         if (address, size) == (PUT, 4):
             self.shows = value
-            return 1, 1
+            return 1, 3
         self.memory[self.place(address, size)] = (value % (1 << 8 * size)).to_bytes(size, "little")
         return (1, 3) if size == 4 else (2, 4)
 
