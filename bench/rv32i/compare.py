@@ -138,6 +138,18 @@ def exchange(core, count, seed):
     print(f"{count} owners with two neighbours each: their {seen} lines with cycles, and what they see of {count * LONG} rows, are the same; nothing is refused")
 
 
+def compare_untagged(core, count, seed):
+    """The core without its tags, which examples/riscv/module makes of it, has the same lines."""
+    module, core.module = core.module, os.path.join(core.folder, "untagged.v")
+    subprocess.run([os.path.join(core.example, "module"), "--untagged", core.module], check=True, env=dict(os.environ, SAPPER=core.program))
+    for name, pairs, cycles in kinds(count, seed):
+        for place, (words_a, words_b) in enumerate(pairs):
+            if place < count:
+                compare(core, f"without tags: {name}, pair {place + 1}", words_a, words_b, cycles)
+    core.module = module
+    print(f"the core without tags: {count} pairs of each kind as in the model")
+
+
 def differs(core):
     """Whether a core does something else than the model."""
     for _, pairs, cycles in kinds(100, 1):
@@ -180,6 +192,7 @@ def main():
         else:
             print("C programs: skipped, no gcc or no riscv64-unknown-elf-gcc")
         exchange(core, max(count // 5, 1), seed)
+        compare_untagged(core, max(count // 20, 1), seed)
         tell_apart(program, top, core, folder)
 
 
