@@ -70,7 +70,7 @@ def main():
             boot, whole = (core.stimulus(words, words, count, f"stimulus{count}") for count in (model.BOOT, cycles))
             took = spent([program, "sim", core.lattice, core.module, whole]) - spent([program, "sim", core.lattice, core.module, boot])
             per = (cycles - model.BOOT) / instructions
-            print(f"{name}: {instructions} instructions of both owners in {cycles - model.BOOT} cycles behind boot, {per:.2f} cycles an instruction;", end=" ")
+            print(f"{name}: {instructions} instructions of both owners in {cycles - model.BOOT} cycles after boot, {per:.2f} cycles an instruction;", end=" ")
             print(f"sim: {(cycles - model.BOOT) / took:,.0f} cycles, {instructions / took:,.0f} instructions a second of processor time")
 
 

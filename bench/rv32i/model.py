@@ -136,7 +136,7 @@ class Owner:
 
 
 def slice_of(owner, before):
-    """What an owner shows in the slice behind the cycle `before`: cycle and word, or None where it halts, which is the last."""
+    """What an owner shows in the slice after the cycle `before`: cycle and word, or None where it halts, which is the last."""
     cycle = BEGINNING
     while cycle < WORKING:
         saved = (owner.pc, owner.registers[:], owner.memory[:]) if cycle == WORKING - 1 else None

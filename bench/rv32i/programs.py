@@ -1,5 +1,5 @@
 """Programs that are drawn at random: sequences of all instructions, after which all registers and some memory are put; memories of wild words; and words that
-are no instructions, each behind an instruction that puts."""
+are no instructions, each after an instruction that puts."""
 
 from .encoding import (
     BRANCH_FORMS, IMMEDIATE_FORMS, LOAD_FORMS, REGISTER_FORMS, SHIFT_FORMS, SIZES, STORE_FORMS,
@@ -73,7 +73,7 @@ def plain(draw):
 
 
 def changing(draw):
-    """A store over an instruction close behind it."""
+    """A store over an instruction soon after it."""
     base, word = draw.sample(range(1, 32), 2)
     distance = draw.randrange(3)
     new = plain(draw)
@@ -142,7 +142,7 @@ def wild_word(draw, room):
 
 
 def wild(draw):
-    """A memory of wild words, which jump to and fro in it and store over one another, behind instructions that give the registers numbers."""
+    """A memory of wild words, which jump to and fro in it and store over one another, after instructions that give the registers numbers."""
     room = draw.choice((8, 40, 400))
     words = [word for one in range(1, 15) for word in constant(one, 4 * draw.randrange(44, 62 + room))]
     words += constant(15, PUT)
