@@ -1,0 +1,1 @@
+streams: cycle 5 input code_b
