@@ -56,7 +56,9 @@ def plain_body(wrapper):
     yield f"plain_core core(.clk(clk){''.join(f', .{port.name}({port.name})' for port in wrapper.given.ports)});"
     seen = wrapper.asked.seen
     for one in wrapper.interface.refusals:
+        if one.name not in shown:
+            yield f"wire {one.name}; wire [{width - 1}:0] {one.level_name};"
         is_seen = f" && ({one.level} | {width}'d{codes[seen]}) == {width}'d{codes[seen]}" if seen is not None else ""
         yield f"assign {one.name} = {one.wire}{is_seen};\nassign {one.level_name} = {one.wire}{is_seen} ? {one.level} : 0;"
-    if wrapper.interface.refusals:
+    if "refused_any" in shown:
         yield f"assign refused_any = |{{{', '.join(one.name for one in wrapper.interface.refusals)}}};"
