@@ -23,14 +23,14 @@ def example(path):
 
 
 class Folder(unittest.TestCase):
-    """A test with a folder in which the scripts run."""
+    """A test with a folder for its files, in which the scripts run if `at` names no other."""
 
     maxDiff = None
 
     def setUp(self):
         folder = tempfile.TemporaryDirectory()
         self.addCleanup(folder.cleanup)
-        self.folder = folder.name
+        self.folder = self.at = folder.name
         self.put("lattice.toml", LATTICE)
 
     def put(self, name, text):
@@ -46,7 +46,7 @@ class Folder(unittest.TestCase):
             return file.read()
 
     def call(self, *words):
-        return subprocess.run(words, cwd=self.folder, capture_output=True, text=True, check=False, stdin=subprocess.DEVNULL)
+        return subprocess.run(words, cwd=self.at, capture_output=True, text=True, check=False, stdin=subprocess.DEVNULL)
 
     def script(self, name, *words):
         """A script's status, lines on standard output and lines on standard error."""
