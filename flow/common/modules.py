@@ -30,6 +30,9 @@ class Module:
         self.ports = [Port(" ".join(kind.split()), int(high) + 1, name) for kind, high, name in found]
         self.widths = {port.name: port.width for port in self.ports}
         self.starts = dict(re.findall(rf"\binitial\s+({NAME})\s*=\s*({NUMBER})\s*;", self.body))
+        self.starts.update(re.findall(rf"\binitial\s+for\s*\([^)]*\)\s*({NAME})\s*\[\s*i\s*\]\s*=\s*({NUMBER})\s*;", self.body))
+        self.depths = {name: int(last) + 1 for name, last in re.findall(rf"\breg\s*\[\s*\d+\s*:\s*0\s*\]\s*({NAME})\s*\[\s*0\s*:\s*(\d+)\s*\]\s*;", self.body)}
+        self.unwritten = {memory for condition, memory, _, _ in STORE.findall(self.body) if condition.endswith("'d0")}
 
     def constants(self):
         """The wires that are assigned a number, also by way of wires."""
@@ -42,6 +45,16 @@ class Module:
             if "'" in end:
                 found[name] = int(end.split("'d")[1])
         return found
+
+    def without_unwritten(self):
+        """The body with the number that they begin with in place of reads of memories that are never written: a tool that drops `initial` keeps it."""
+        body = self.body
+        for memory in self.unwritten:
+            body = re.sub(rf"\breg\s*\[[^]]*\]\s*{memory}\s*\[[^]]*\]\s*;\n?", "", body)
+            body = re.sub(rf"\binitial\s+for\s*\([^)]*\)\s*{memory}\s*\[\s*i\s*\]\s*=[^;]*;\n?", "", body)
+            body = STORE.sub(lambda found, memory=memory: "" if found[2] == memory else found[0], body)
+            body = re.sub(rf"=\s*{memory}\s*\[[^]]*\]\s*;", f"= {self.starts[memory]};", body)
+        return re.sub(r"\n\n+", "\n", body)
 
     def need(self, name, kind, width=None):
         """Stops where this port isn't there: the module is another design's."""

@@ -35,8 +35,8 @@ class Wrap(Folder):
 
     @needs("yosys")
     def test_is_the_module(self):
-        choices = [[], ["--reset"], ["--enable"], ["--reset", "--enable", "--seen", "low"], ["--refusals", "any"]]
-        for at, (folder, name) in enumerate([("language", "states"), ("language", "memory"), ("language", "retag"), ("verilog", "fifo"), ("bus", "slots")]):
+        choices = [[], ["--reset"], ["--enable"], ["--reset", "--enable", "--clear", "--seen", "low"], ["--refusals", "any"]]
+        for at, (folder, name) in enumerate([("language", "states"), ("language", "retag"), ("bus", "slots"), ("language", "memory"), ("verilog", "fifo")]):
             for words in (choices[at], ["--reset", "--enable"]):
                 with self.subTest(name=name, words=words):
                     self.wrapped(folder, name, *words)
@@ -67,7 +67,7 @@ class Wrap(Folder):
     @needs("verilator", "yosys", "iverilog")
     def test_tools_say_nothing(self):
         for folder, name in WITH_MEMORIES + [("language", "states"), ("machine", "machine"), ("owners", "box")]:
-            for words in ([], ["--reset", "--enable"]):
+            for words in ([], ["--reset", "--enable"], ["--reset", "--clear"]):
                 with self.subTest(name=name, words=words):
                     self.wrapped(folder, name, *words)
                     self.silent("verilator", "--lint-only", "--top-module", "w", "w.v")
@@ -82,12 +82,32 @@ class Wrap(Folder):
                 self.assertEqual(self.wrapped(folder, name, "--reset", "--enable"), [])
                 self.same(folder, name, stimulus, random.Random(name))
 
-    def same(self, folder, name, stimulus, draw):
-        lattice, design, stimulus = (example(f"{folder}/{file}") for file in ("lattice.toml", f"{name}.sapper", f"{stimulus}.txt"))
+    @needs("iverilog", "vvp")
+    def test_rows_after_clearing(self):
+        """The same with memories, where rst clears them and is 1 for as many cycles as they have cells."""
+        for folder, name, stimulus, cells in (("language", "memory", "memory", 4), ("verilog", "fifo", "pushed", 2), ("processor", "kernel", "one", 16)):
+            with self.subTest(name=name):
+                self.assertEqual(self.wrapped(folder, name, "--reset", "--clear", "--enable"), [])
+                self.assertIn(f"1 for {cells} cycles, after a cycle of 0, it clears the memories too.", self.held("w.v"))
+                self.same(folder, name, stimulus, random.Random(name), cells)
+
+    @needs("iverilog", "vvp")
+    def test_rows_after_clearing_retagged_cells(self):
+        self.put("d.sapper", "input a : 8;\ninput at : 1;\nmem m : 8[2] enforced low;\nreg x : 8 dynamic;\nstate S enforced low {\n  x := m[at];\n"
+                 "  if (a[0:0]) {\n    m[at] := a;\n  } else {\n    setTag(m[at], high);\n  }\n  goto S;\n}\n")
+        self.put("one.txt", "5@low 0@low\n0@low 1@low\n9@low 1@low\n4@high 0@low\n1@low 1@low\n")
+        self.program("compile", "lattice.toml", "d.sapper", "d.v")
+        self.done("wrap", "lattice.toml", "d.sapper", "d.v", "w", "--reset", "--clear", "--enable")
+        self.compared(self.path("lattice.toml"), self.path("d.sapper"), self.path("one.txt"), random.Random(1), 2)
+
+    def same(self, folder, name, stimulus, draw, cells=0):
+        self.compared(*(example(f"{folder}/{file}") for file in ("lattice.toml", f"{name}.sapper", f"{stimulus}.txt")), draw, cells)
+
+    def compared(self, lattice, design, stimulus, draw, cells):
         interface = Interface(lattice, design)
         with open(stimulus, encoding="utf-8") as file:
             cycles = cycles_of(file.read())
-        self.put("bench.v", bench(interface, cycles, draw))
+        self.put("bench.v", bench(interface, cycles, draw, cells))
         self.silent("iverilog", "-g2005", "-o", "bench", "bench.v", "w.v")
         told = self.call("vvp", "-n", "bench").stdout.splitlines()
         levels = {code: level for level, code in interface.codes.items()}
@@ -116,6 +136,7 @@ initial begin #1 clk = 1; #1 clk = 0; a = 5; ta = 0; rst = 1; #1 clk = 1; #1 $di
 
     def test_memories_are_named(self):
         self.assertEqual(len(self.wrapped("processor", "kernel", "--reset")), 2)
+        self.assertEqual(self.wrapped("processor", "kernel", "--reset", "--clear"), [])
         self.assertEqual(self.wrapped("processor", "kernel", "--enable"), [])
 
     @needs("iverilog", "vvp")
@@ -205,7 +226,7 @@ initial for (i = 0; i < 8; i = i + 1) begin a = i; t = i < 2; rst = i == 5; #1 $
         self.assertIn("always @(posedge clk) if (~rst) t_p_m <= ", self.held("w.v"))
 
 
-def bench(interface, cycles, draw):
+def bench(interface, cycles, draw, cells):
     """A testbench of a wrapper: what comes before a reset at random, then the cycles, some of them held for a while."""
     inputs, registers = list(interface.names("inputs").items()), list(interface.registers)
     lines = ["module bench;", "reg clk = 0, rst = 0, en = 1;"]
@@ -237,7 +258,9 @@ def bench(interface, cycles, draw):
         give(draw.choice(cycles))
         step(0, draw.randrange(2))
         edge()
-    for en in draw.choice([[0], [1], [1, 0], [0, 0, 1]]):
+    step(0, 0)
+    edge()
+    for en in [draw.randrange(2) for _ in range(max(cells, draw.randrange(1, 4)))]:
         give(draw.choice(cycles))
         step(1, en)
         edge()
