@@ -1,4 +1,5 @@
 """A testbench that shows a run of a module by names, and how GTKWave is to show its dump."""
+import re
 from dataclasses import dataclass
 
 from .designs import is_dynamic
@@ -87,6 +88,15 @@ class Bench:
             yield Signal(f"mem_{name}_{cell}", memory.width.value, f"dut.v_{name}[{cell}]")
             if not is_dynamic(memory):
                 yield Signal(f"memtag_{name}_{cell}", self.interface.tag_width, f"dut.t_{name}[{cell}]", names="levels")
+
+    def part_refusals(self, dump):
+        """Puts the refusals that don't happen in a dump behind all else."""
+        signs = dict(re.findall(r"\$var wire +1 (\S+) (refused_\w+) \$end", dump))
+        happen = {signs[sign] for sign in re.findall(r"^1(\S+)$", dump, re.MULTILINE) if sign in signs}
+        refusals = self.groups["Refusals"]
+        pairs = list(zip(refusals[::2], refusals[1::2]))
+        self.groups["Refusals"] = [one for pair in pairs if pair[0].name in happen for one in pair]
+        self.groups["Refusals that don't happen here"] = [one for pair in pairs if pair[0].name not in happen for one in pair]
 
     # The testbench.
 
