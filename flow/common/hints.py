@@ -25,7 +25,12 @@ def hint(code, text, place):
 
 
 def of_byte(bytes_there):
-    signs = {"!": "`!a` is `~a` for one bit, and `a == 0` for more.", "%": "There is no remainder.", "/": "There is no division.", "'": "A width stands in front of `'`, as in `8'd5`."}
+    signs = {
+        "!": "`!a` is `~a` for one bit, and `a == 0` for more.",
+        "%": "There is no remainder.",
+        "/": "There is no division.",
+        "'": "A width stands in front of `'`, as in `8'd5`.",
+    }
     return signs.get(bytes_there[:1])
 
 
@@ -65,9 +70,11 @@ def in_case(tokens, at):
 def of_kind(around, tokens, at):
     """E5: of an index behind what is no memory."""
     _, last, token, after, index = around
-    if after == "[" and last != "mem":
-        return f"An index is for memories: bit {index} of `{token}` is `{token}[{index}:{index}]`." if index.isdigit() else "An index is for memories: shift and take a slice, `(x >> n)[0:0]`."
-    return None
+    if after != "[" or last == "mem":
+        return None
+    if index.isdigit():
+        return f"An index is for memories: bit {index} of `{token}` is `{token}[{index}:{index}]`."
+    return f"An index is for memories: bit n of `{token}` is `({token} >> n)[0:0]`."
 
 
 def of_number(around, tokens, at):

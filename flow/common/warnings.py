@@ -80,7 +80,8 @@ class Warnings:
 
     def always(self, place, what, cause, level, limit):
         kind = "context" if cause == "what leads here" else "always"
-        self.warn(place, kind, f"{what} is refused whenever it is reached: {cause} is never below {self.level(level)}, and its tag would have to be at or below {self.level(limit)}")
+        too_high = f"{cause} is never below {self.level(level)}, and its tag would have to be at or below {self.level(limit)}"
+        self.warn(place, kind, f"{what} is refused whenever it is reached: {too_high}")
 
     def level(self, code):
         """The level of a code; a join of levels has one, too."""
@@ -125,7 +126,8 @@ class Warnings:
                 waiting += [command.simple.target.text for command in commands_in(known[name].body) if isinstance(command.simple, Goto)]
         for name, state in known.items():
             if name not in entered:
-                self.warn(state.name.place, "unentered", f"nothing enters the state {name}: {states[0].name.text} is the first of its group, and no `goto` leads on to it")
+                why = f"{states[0].name.text} is the first of its group, and no `goto` leads on to it"
+                self.warn(state.name.place, "unentered", f"nothing enters the state {name}: {why}")
 
     # Readers.
 
@@ -186,7 +188,8 @@ class Warnings:
         most = count.value if isinstance(count, (Number, Sized)) else 2 ** (widths.own(count) or 64) - 1
         first = width - value.bit_length() + 1
         if value and most >= first:
-            self.warn(expression.start, "shift", f"the number that is shifted has the {width} bits of its place, and loses some from a count of {max(first, 1)} on; if that is meant, write its width, as in `{width}'d{value} << n`")
+            what = f"the number that is shifted has the {width} bits of its place, and loses some from a count of {max(first, 1)} on"
+            self.warn(expression.start, "shift", f"{what}; if that is meant, write its width, as in `{width}'d{value} << n`")
 
     # Tags of cells.
 
@@ -197,4 +200,6 @@ class Warnings:
             if retags:
                 width = max(self.part.codes.values()).bit_length()
                 place = f"{retags[0].place[0]}:{retags[0].place[1]}"
-                self.warn(memory.name.place, "cell-tags", f"the cells of {name} are retagged one by one ({place}): their tags are a second memory of {depth} cells of {width} bits, read wherever {name} is; a memory for each owner has tags that never change, and cost nothing")
+                what = f"the cells of {name} are retagged one by one ({place})"
+                cost = f"their tags are a second memory of {depth} cells of {width} bits, read wherever {name} is"
+                self.warn(memory.name.place, "cell-tags", f"{what}: {cost}; a memory for each owner has tags that never change, and cost nothing")

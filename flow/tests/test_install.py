@@ -27,7 +27,8 @@ class Install(Folder):
         status, told = self.install("here")
         self.assertEqual(status, 0, told)
         installed = {path for path in self.every() - before}
-        self.assertTrue({f"here/{path}" for path in ("bin/sapper", "share/man/man1/sapper.1", "share/vim/vimfiles/compiler/sapper.vim", "share/sapper/editors/vscode/package.json")} <= installed)
+        wanted = ("bin/sapper", "share/man/man1/sapper.1", "share/vim/vimfiles/compiler/sapper.vim", "share/sapper/editors/vscode/package.json")
+        self.assertTrue({f"here/{path}" for path in wanted} <= installed)
         self.assertEqual([path for path in installed if "test" in path], [])
         lattice, design = example("first/lattice.toml"), example("first/adder.sapper")
         self.assertEqual(self.run_there("sapper", "compile", lattice, design, "top.v"), (0, "", ""))

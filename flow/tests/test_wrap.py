@@ -1,10 +1,14 @@
 """Wrappers: the same as the module in them, reset and held by their ports, silent in other tools, and two in one system."""
 import random
 import re
+from argparse import Namespace
 
 from common.interface import Interface
 from common.modules import Module
+from common.program import Stop
+from common.proof import prove
 from common.streams import cycles_of
+from common.wrapper import Wrapper
 
 from .support import CHAIN, Folder, example, needs
 
@@ -46,23 +50,18 @@ class Wrap(Folder):
 
     @needs("yosys")
     def test_proof_can_fail(self):
-        """A wrapper of another module isn't taken for this one."""
-        self.put("d.sapper", "input a : 8;\nreg x : 8 dynamic;\nstate S enforced low {\n  x := a;\n  goto S;\n}\n")
-        self.program("compile", "lattice.toml", "d.sapper", "d.v")
-        from common import proof
-
-        class Asked:
-            seen = None
-
-        class Wrapper:
-            asked, name, interface, given = Asked, "w", Interface(self.path("lattice.toml"), self.path("d.sapper")), Module(self.path("d.v"))
-            controls, asked_ties = staticmethod(lambda: ["rst"]), staticmethod(lambda: [])
-            ports = staticmethod(lambda: [("input", "", "clk"), ("input", "", "rst"), ("input", "[7:0]", "v_a"), ("input", "[0:0]", "t_a"), ("output", "[7:0]", "v_x")])
-
-        text = "module w(input clk, input rst, input [7:0] v_a, input [0:0] t_a, output [7:0] v_x);\nreg [7:0] x = 0; assign v_x = x;\n"
-        self.put("w.v", text + "always @(posedge clk) x <= v_a + 1;\nendmodule\n")
-        with self.assertRaisesRegex(Exception, "unproven"):
-            proof.prove(Wrapper, self.path("w.v"))
+        """The wrapper of a module isn't taken for that of another one with the same ports."""
+        for at, step in enumerate(("a", "a + 1")):
+            self.put(f"{at}.sapper", f"input a : 8;\nreg x : 8 dynamic;\nstate S enforced low {{\n  x := {step};\n  goto S;\n}}\n")
+            self.program("compile", "lattice.toml", f"{at}.sapper", f"{at}.v")
+        asked = Namespace(lattice=self.path("lattice.toml"), design=self.path("0.sapper"), module=self.path("0.v"), name="w")
+        asked.__dict__.update(keep=None, tie=[], reset=True, clear=False, enable=True, refusals="all", seen=None)
+        wrapper = Wrapper(asked)
+        self.put("w.v", wrapper.text())
+        prove(wrapper, self.path("w.v"))
+        wrapper.given = Module(self.path("1.v"))
+        with self.assertRaisesRegex(Stop, "unproven"):
+            prove(wrapper, self.path("w.v"))
 
     @needs("verilator", "yosys", "iverilog")
     def test_tools_say_nothing(self):
@@ -182,6 +181,9 @@ initial begin #1 clk = 1; #1 clk = 0; a = 5; ta = 0; rst = 1; #1 clk = 1; #1 $di
         status, lines, errors = self.script("wrap", lattice, design, "other.v", "w")
         self.assertEqual((status, lines, errors), (5, [], ["wrap: other.v isn't the module of this design: it has no output v_x of 8 bits"]))
         self.assertEqual(self.script("wrap", lattice, design, "none.v", "w")[0], 6)
+        status, _, errors = self.script("wrap", lattice, design, "./top.v", "top")
+        self.assertEqual((status, self.held("top.v").split("\n")[0]), (2, "// written by sapper"))
+        self.assertIn("top.v is a file that is read", errors[-1])
 
     def two(self):
         self.wrapped("first", "guarded", "--reset", "--enable", "--refusals", "any", top="first")
