@@ -117,6 +117,7 @@ class Watch(Folder):
             for name, value, level in re.findall(r" (\w+)=(\d+)@(\w+)", row):
                 self.assertEqual((after[f"v_{name}"], levels[after[f"t_{name}"]]), (int(value), level))
 
+    @needs("iverilog", "vvp")
     def test_bad_words(self):
         words = [example("processor/lattice.toml"), example("processor/kernel.sapper"), example("processor/one.txt")]
         self.assertEqual(self.script("watch", *words, "run.wave")[0], 2)
