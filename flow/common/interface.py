@@ -2,6 +2,7 @@
 from dataclasses import dataclass
 
 from .designs import is_dynamic, parts_of
+from .program import Stop
 
 
 @dataclass(frozen=True)
@@ -51,7 +52,7 @@ class Interface:
             module.need(refusal.level, "output", self.tag_width)
         known = 2 * (len(self.inputs(module)) + len(self.registers) + len(self.refusals))
         if known != len(module.ports):
-            module.need(f"{len(module.ports) - known} fewer ports", "module")
+            raise Stop(f"{module.path} isn't the module of this design: it has {len(module.ports) - known} ports more", 5)
 
     def kept_tags(self):
         """The tag registers of dynamic memories: such a tag belongs to the contents."""

@@ -9,6 +9,8 @@ from common.program import Stop
 from common.proof import prove
 from common.streams import cycles_of
 from common.wrapper import Wrapper
+from model.cases import case_of
+from model.tree import Memory
 
 from .support import CHAIN, Folder, example, needs
 
@@ -89,6 +91,20 @@ class Wrap(Folder):
                 self.assertEqual(self.wrapped(folder, name, "--reset", "--clear", "--enable"), [])
                 self.assertIn(f"1 for {cells} cycles, after a cycle of 0, it clears the memories too.", self.held("w.v"))
                 self.same(folder, name, stimulus, random.Random(name), cells)
+
+    @needs("iverilog", "vvp")
+    def test_rows_of_random_designs(self):
+        for seed in range(1, 13):
+            case = case_of(seed)
+            cells = max([one.depth.value for one in case.design.tree.declarations if isinstance(one, Memory)], default=0)
+            if cells > 64 or not case.streams[0]:
+                continue
+            with self.subTest(seed=seed):
+                for name, text in (("lattice.toml", case.lattice_text), ("d.sapper", case.text), ("one.txt", case.stimuli[0])):
+                    self.put(name, text)
+                self.program("compile", "lattice.toml", "d.sapper", "d.v")
+                self.done("wrap", "lattice.toml", "d.sapper", "d.v", "w", "--reset", "--clear", "--enable")
+                self.compared(self.path("lattice.toml"), self.path("d.sapper"), self.path("one.txt"), random.Random(seed), cells)
 
     @needs("iverilog", "vvp")
     def test_rows_after_clearing_retagged_cells(self):
@@ -180,6 +196,10 @@ initial begin #1 clk = 1; #1 clk = 0; a = 5; ta = 0; rst = 1; #1 clk = 1; #1 $di
         self.program("compile", lattice, example("first/guarded.sapper"), "other.v")
         status, lines, errors = self.script("wrap", lattice, design, "other.v", "w")
         self.assertEqual((status, lines, errors), (5, [], ["wrap: other.v isn't the module of this design: it has no output v_x of 8 bits"]))
+        self.put("more.sapper", "input a : 8;\nreg x : 8 dynamic;\nreg y : 8 dynamic;\nstate S enforced low {\n  x := a;\n  goto S;\n}\n")
+        self.program("compile", lattice, "more.sapper", "more.v")
+        told = self.script("wrap", lattice, design, "more.v", "w")
+        self.assertEqual(told, (5, [], ["wrap: more.v isn't the module of this design: it has 2 ports more"]))
         self.assertEqual(self.script("wrap", lattice, design, "none.v", "w")[0], 6)
         status, _, errors = self.script("wrap", lattice, design, "./top.v", "top")
         self.assertEqual((status, self.held("top.v").split("\n")[0]), (2, "// written by sapper"))
@@ -245,8 +265,8 @@ def bench(interface, cycles, draw, cells):
     lines.append(f"wire refused_any;\nw dut(.clk(clk), .rst(rst), .en(en){''.join(f', .{port}({port})' for port in ports)});\ninitial begin")
 
     def give(fields):
-        for (name, _), (value, level) in zip(inputs, fields):
-            lines.append(f"  v_{name} = {value}; t_{name} = {interface.codes[level]};")
+        for (name, width), (value, level) in zip(inputs, fields):
+            lines.append(f"  v_{name} = {width}'d{value}; t_{name} = {interface.codes[level]};")
 
     def step(rst, en):
         lines.append(f"  rst = {rst}; en = {en}; #1;")
