@@ -1,7 +1,7 @@
 """What a module has of a design or of the parts of a system, by the names of the module."""
 from dataclasses import dataclass
 
-from .designs import is_dynamic, parts_of
+from .designs import parts_of
 from .program import Stop
 
 
@@ -53,10 +53,6 @@ class Interface:
         known = 2 * (len(self.inputs(module)) + len(self.registers) + len(self.refusals))
         if known != len(module.ports):
             raise Stop(f"{module.path} isn't the module of this design: it has {len(module.ports) - known} ports more", 5)
-
-    def kept_tags(self):
-        """The tag registers of dynamic memories: such a tag belongs to the contents."""
-        return {f"t_{name}" for name, memory in self.memories.items() if is_dynamic(memory)}
 
 
 def refusals(parts):

@@ -2,6 +2,7 @@
 import os
 import re
 
+from .designs import is_dynamic
 from .interface import Interface
 from .modules import NAME, STEP, STORE, Module
 from .program import Stop
@@ -68,9 +69,13 @@ class Wrapper:
         return f"1 for {self.cells()} cycles, after a cycle of 0, it clears the memories too." if self.asked.clear else "It resets no memory."
 
     def written_memories(self):
-        """The memories whose contents or tags are written at all."""
+        """The memories whose contents, or whose tags of cells, are written at all."""
         written = set(self.given.depths) - self.given.unwritten
         return {name: memory for name, memory in self.interface.memories.items() if written & {f"v_{name}", f"t_{name}"}}
+
+    def tags_of_contents(self):
+        """The tag registers of dynamic memories that are written: such a tag belongs to the contents."""
+        return {f"t_{name}" for name, memory in self.written_memories().items() if is_dynamic(memory)}
 
     def cells(self):
         """How many cells the largest memory that is written has."""
@@ -156,9 +161,10 @@ class Wrapper:
             return
         codes = ", ".join(f"LEVEL_{name}" for name in self.interface.codes)
         yield "`ifndef SYNTHESIS"
-        yield f"function is_code(input {self.tags} tag);\n  case (tag)\n    {codes}: is_code = 1'b1;\n    default: is_code = 1'b0;\n  endcase\nendfunction"
-        conditions = ["en"] * self.asked.enable + ["!rst"] * self.asked.reset
-        yield f"always @(posedge clk){f' if ({chr(32).join(conditions).replace(chr(32), chr(32) + chr(38) * 2 + chr(32))})' if conditions else ''} begin"
+        yield f"function is_code(input {self.tags} tag);"
+        yield f"  case (tag)\n    {codes}: is_code = 1'b1;\n    default: is_code = 1'b0;\n  endcase\nendfunction"
+        conditions = " && ".join(["en"] * self.asked.enable + ["!rst"] * self.asked.reset)
+        yield f"always @(posedge clk) {f'if ({conditions}) ' if conditions else ''}begin"
         for tag in free:
             yield f'  if (!is_code({tag})) begin $display("%m: at %0t {tag} is %b, the code of no level", $time, {tag}); $stop; end'
         yield "end\n`endif"
@@ -200,7 +206,7 @@ class Wrapper:
     def stepped(self, found):
         """The tag of a dynamic memory belongs to its contents: it is reset when the last cell is cleared, or never."""
         register, value = found.groups()
-        belongs = register in self.interface.kept_tags() and self.asked.reset
+        belongs = register in self.tags_of_contents() and self.asked.reset
         if belongs and not self.is_clearing():
             return f"always @(posedge clk) if ({' & '.join(self.held())}) {register} <= {value};"
         if not self.asked.reset:

@@ -149,6 +149,16 @@ initial begin #1 clk = 1; #1 clk = 0; a = 5; ta = 0; rst = 1; #1 clk = 1; #1 $di
         self.silent("iverilog", "-g2005", "-o", "bench", "bench.v", "w.v")
         self.assertEqual(self.call("vvp", "-n", "bench").stdout.splitlines(), ["0@0", "77@1"])
 
+    def test_memory_that_is_never_written(self):
+        """It becomes its number, and a tag of it is reset as any register."""
+        text = "input a : 1;\nmem m : 8[2] dynamic;\nreg x : 8 dynamic;\nstate S enforced low {\n  x := m[a];\n  if (a < 0) {\n    m[a] := 1;\n  }\n  goto S;\n}\n"
+        self.put("d.sapper", text)
+        self.program("compile", "lattice.toml", "d.sapper", "d.v")
+        self.assertIn("always @(posedge clk) if (1'd0) v_m", self.held("d.v"))
+        self.done("wrap", "lattice.toml", "d.sapper", "d.v", "w", "--reset")
+        self.assertNotIn("v_m", self.held("w.v"))
+        self.assertRegex(self.held("w.v"), r"if \(rst\) t_m <= 1'd0; else t_m <= ")
+
     def test_memories_are_named(self):
         self.assertEqual(len(self.wrapped("processor", "kernel", "--reset")), 2)
         self.assertEqual(self.wrapped("processor", "kernel", "--reset", "--clear"), [])
