@@ -25,7 +25,7 @@ Beside it stands a model of modules and of dumps, after docs/MODULES.md and docs
     random_taints           modules whose names leave room for tags, or don't
     taint_table, compare_taints
                             two scripts: the model of tags on what was worked out by hand, the program beside it
-    brought_over, icarus    what examples/verilog/to_subset wrote, and rows of any module by Icarus Verilog
+    brought_over, icarus    what flow/to_subset wrote, and rows of any module by Icarus Verilog
     verilog_table, random_verilog
                             modules of Verilog that are brought over or refused, and such drawn at random
     compare_verilog         a script: the script of the example beside Icarus Verilog

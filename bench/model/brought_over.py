@@ -1,4 +1,4 @@
-"""A module that examples/verilog/to_subset wrote: what its notes say, and its rows."""
+"""A module that flow/to_subset wrote: what its notes say, and its rows."""
 
 import re
 from typing import NamedTuple

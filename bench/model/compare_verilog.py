@@ -1,4 +1,4 @@
-"""examples/verilog/to_subset beside Icarus Verilog. Usage: python3 -m model.compare_verilog TOP COUNT SEED [PROGRAM]"""
+"""flow/to_subset beside Icarus Verilog. Usage: python3 -m model.compare_verilog TOP COUNT SEED [PROGRAM]"""
 
 import glob
 import os
@@ -42,7 +42,7 @@ class Case:
             file.write(text)
 
     def call(self):
-        return subprocess.run([sys.executable, self.script, "out.v", "given.v"], cwd=self.folder, capture_output=True, text=True, check=False)
+        return subprocess.run([sys.executable, self.script, "given.v", "out.v"], cwd=self.folder, capture_output=True, text=True, check=False)
 
     def refused(self, line):
         """Refused in one line, and nothing is written."""
@@ -135,7 +135,7 @@ def cases(top, count, seed):
 
 def main(top, count, seed, program=None):
     counts, wrong = Counter(), 0
-    script = os.path.join(os.path.realpath(top), "examples", "verilog", "to_subset")
+    script = os.path.join(os.path.realpath(top), "flow", "to_subset")
     for name, text, tried in cases(top, count, seed):
         case = Case(script, program, name, text, counts)
         tried(case)

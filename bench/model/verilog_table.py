@@ -1,4 +1,4 @@
-"""Modules of Verilog as they are written every day, which examples/verilog/to_subset brings over, and others that it refuses, with the line that it says."""
+"""Modules of Verilog as they are written every day, which flow/to_subset brings over, and others that it refuses, with the line that it says."""
 
 BROUGHT_OVER = {
     "counter": """
@@ -193,8 +193,18 @@ REFUSED = {
     "latch": ("module top(input on, input d, output reg q);\n  always @* if (on) q = d;\nendmodule\n", "FILE:2.3-2.27: a latch"),
     "reset_between_edges": (
         "module top(input clk, input rst, input d, output reg q);\n  always @(posedge clk or posedge rst) if (rst) q <= 0; else q <= d;\nendmodule\n",
-        "FILE:2.3-2.69: a register that is set or reset between edges",
+        "FILE:2.3-2.69: a register with an asynchronous set or reset",
     ),
+    "asynchronous_counter": (
+        "module top(input clk, input rst_n, output reg [7:0] q);\n  always @(posedge clk or negedge rst_n)\n    if (!rst_n) q <= 0; else q <= q + 1;\nendmodule\n",
+        "FILE:2.3-3.41: a register with an asynchronous set or reset",
+    ),
+    "set_and_reset": (
+        "module top(input clk, input set, input rst, output reg q);\n  always @(posedge clk or posedge set or posedge rst)\n"
+        "    if (rst) q <= 0; else if (set) q <= 1; else q <= ~q;\nendmodule\n",
+        "FILE:2.3-3.57: a register with an asynchronous set or reset",
+    ),
+    "latch_that_counts": ("module top(input on, output reg [3:0] q);\n  always @* if (on) q = q + 1;\nendmodule\n", "FILE:2.3-2.31: a latch"),
     "two_clocks": (
         "module top(input a, input b, input d, output reg p, output reg q);\n  always @(posedge a) p <= d;\n  always @(posedge b) q <= p;\nendmodule\n",
         "FILE:2.3-2.30: a second clock",
