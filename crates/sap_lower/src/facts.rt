@@ -20,7 +20,7 @@ pub enum Fact {
 }
 
 /// How many gates around a gate are looked at.
-pub const GATES: u32 = 8;
+pub const GATES: u32 = 6;
 
 /// How deep a test is taken apart.
 pub const TESTS: u32 = 3;
@@ -70,7 +70,6 @@ fn add_test(
     if most == 0 {
         return Ok(());
     }
-    add_set(alloc, facts, test)?;
     match wires.right_of(before, test) {
         Some(Right::Two(Op2::And, Operand::Named(a), Operand::Named(b))) => {
             add_test(alloc, facts, wires, before, most - 1, a)?;
@@ -79,7 +78,7 @@ fn add_test(
         Some(Right::Two(Op2::Eq, Operand::Named(a), Operand::Constant { value, .. })) => {
             add_equals(alloc, facts, a, *value)
         }
-        _ => Ok(()),
+        _ => add_set(alloc, facts, test),
     }
 }
 
@@ -129,7 +128,7 @@ fn add_gate(
 pub fn facts_of(alloc: Global, wires: &Wires, gate: &Operand) -> Result<Vec<Fact>, AllocError>
     ensures { IfOk result (λ facts. facts.items ≡ spec.facts_of wires.now gate.now) }
 {
-    let mut facts = Vec::new(alloc);
+    let mut facts = Vec::with_capacity(alloc, 2 * GATES as usize)?;
     add_gate(alloc, &mut facts, wires, wires.len(), GATES, gate)?;
     Ok(facts)
 }

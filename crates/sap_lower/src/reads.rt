@@ -68,9 +68,6 @@ fn denies_test(facts: &[Fact], wires: &Wires, before: usize, most: u32, test: &N
     if most == 0 {
         return false;
     }
-    if is_clear(facts, test) {
-        return true;
-    }
     match wires.right_of(before, test) {
         Some(Right::Two(Op2::And, Operand::Named(a), Operand::Named(b))) => {
             denies_test(facts, wires, before, most - 1, a)
@@ -79,7 +76,7 @@ fn denies_test(facts: &[Fact], wires: &Wires, before: usize, most: u32, test: &N
         Some(Right::Two(Op2::Eq, Operand::Named(a), Operand::Constant { value, .. })) => {
             is_other(facts, a, *value)
         }
-        _ => false,
+        _ => is_clear(facts, test),
     }
 }
 

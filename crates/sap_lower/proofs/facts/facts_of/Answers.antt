@@ -9,6 +9,6 @@ returns c =
     let ws = c.args.wires.now in
     let gate = c.args.gate.now in
     c.in_ok-add_gate.ensures
-    ∙ ap (λ (fs : List Fact). fs ++ gate_facts gates (take c.len.result ws) gate) c.new-facts.ensures.items
+    ∙ ap (λ (fs : List Fact). fs ++ gate_facts gates (take c.len.result ws) gate) c.in_ok-facts.ensures.items
     ∙ ap (λ (k : ℕ). gate_facts gates (take k ws) gate) c.len.ensures
     ∙ ap (λ (u : List Wire). gate_facts gates u gate) (take_all (length ws) ws (omega arith))
