@@ -1,3 +1,4 @@
 pub mod Paths
 pub mod Agreeing
+pub mod Compared
 pub mod Faults

@@ -1,4 +1,5 @@
 pub mod Agree
+pub mod Comparing
 pub mod Compiles
 pub mod Failures
 pub mod Faults

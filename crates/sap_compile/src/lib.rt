@@ -3,6 +3,7 @@
 
 mod compiled;
 mod compiler;
+pub mod examples;
 mod fault;
 mod module;
 mod read;

@@ -7,3 +7,4 @@ mod Agreeing
 mod Composites
 mod Serving
 mod Computed
+mod Compared

@@ -12,7 +12,7 @@ use Rattle.sap_meaning.specs.Agree.{StreamsAgree}
 use Rattle.sap_resolved.specs.Fill.{program_of}
 use Rattle.sap_link.specs.Systems.{Wire, System, WiresFit}
 use Rattle.sap_link.specs.Composites.{CompositeState, composite_run_from, first_states, composite_run, run_of_part, stream_of_part, StreamFits}
-use Rattle.sap_link.specs.Agree.{PartsAgree, CompositeRunsAgree}
+use Rattle.sap_link.specs.Agree.{PartsAgree, CompositeRunsAgree, RunsOfStreamsAgree}
 use Rattle.sap_link.specs.Laws.{FineSystem, SizedSystem, PartsRest}
 
 -- designs over the levels of a lattice, linked by wires
@@ -40,8 +40,7 @@ LaterLinkedRunsAgree = (ls : Levels) (designs : List DesignTree) (wires : List W
 -- .. and so from the first states
 abbrev pub LinkedRunsAgree : Type 0
 LinkedRunsAgree = (ls : Levels) (designs : List DesignTree) (wires : List Wire) → Laws (order_of ls) → WellLinked ls designs wires
-    → let y = linked ls designs wires in
-    (l : ℕ) (a b : List (List Tagged)) → StreamsAgree (order_of ls) l a b → CompositeRunsAgree y l (composite_run y a) (composite_run y b)
+    → RunsOfStreamsAgree (linked ls designs wires)
 
 -- and on a stream that fits, each design has its labelled run on what its inputs receive, which fits it
 abbrev pub PartsOfLinkedRun : Type 0

@@ -9,8 +9,8 @@ use Rattle.sap_meaning.specs.Agree.{InputsAgree, StreamsAgree}
 use Rattle.sap_meaning.specs.Fine.{FineProgram}
 use Rattle.sap_meaning.specs.Sized.{SizedProgram}
 use Rattle.sap_link.specs.Systems.{System, endpoint, part, world, IsPart, free_inputs, FedOnce, WiresFit}
-use Rattle.sap_link.specs.Composites.{CompositeState, states_of, carried, received, part_inputs, composite_cycle, composite_run_from, first_states, composite_run, run_of_part, stream_of_part, InputsFit, StreamFits}
-use Rattle.sap_link.specs.Agree.{PartsAgree, CompositesAgree, CompositeRunsAgree}
+use Rattle.sap_link.specs.Composites.{CompositeState, states_of, carried, received, part_inputs, composite_cycle, composite_run_from, first_states, run_of_part, stream_of_part, InputsFit, StreamFits}
+use Rattle.sap_link.specs.Agree.{PartsAgree, CompositesAgree, CompositeRunsAgree, RunsOfStreamsAgree}
 
 -- fine programs over the system's order, with wires that break no rule
 pub record FineSystem (y : System) : Type 0 where
@@ -86,5 +86,4 @@ LaterCompositesAgree = (y : System) → FineSystem y → (l : ℕ) (s t : Compos
 
 -- .. and so from the first states.
 abbrev pub CompositesOfStreamsAgree : Type 0
-CompositesOfStreamsAgree = (y : System) → FineSystem y → (l : ℕ) (a b : List (List Tagged)) → StreamsAgree y.order l a b
-    → CompositeRunsAgree y l (composite_run y a) (composite_run y b)
+CompositesOfStreamsAgree = (y : System) → FineSystem y → RunsOfStreamsAgree y

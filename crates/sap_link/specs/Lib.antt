@@ -4,3 +4,4 @@ pub mod Agree
 pub mod Laws
 pub mod Designs
 pub mod Examples
+pub mod Comparing

@@ -17,13 +17,13 @@ use Rattle.sap_net.proofs.Same.{run_same}
 use Rattle.sap_interface.specs.Prelude.{Named, named_of, site_count_of, coded_stream, CyclesStand}
 use Rattle.sap_link.specs.Systems.{Wire, System, part, IsPart}
 use Rattle.sap_link.specs.Composites.{CompositeAfter, StreamFits, composite_run, first_states, run_of_part, stream_of_part}
-use Rattle.sap_link.specs.Agree.{CompositeRunsAgree}
+use Rattle.sap_link.specs.Agree.{CompositeRunsAgree, RunsOfStreamsAgree}
 use Rattle.sap_link.specs.Designs.{linked, WellLinked, LinkedRunsAgree, PartsOfLinkedRun}
 use Rattle.sap_linked.specs.Prelude.{Part, NamedSystem, no_part, system_of, RunsStand, NamedDesign, part_of, trees, named_system}
 use Rattle.sap_compile.specs.Agree.{CyclesAgree, CyclesLookAlike}
 use Rattle.sap_compile.proofs.Agreeing.{AllStates, labelled_states, each_agrees, in_each, look_alike}
 use Rattle.sap_linked_agree.specs.Agree.{seen_of, SystemRunsAgree, SystemRunsLookAlike}
-use Rattle.sap_linked_agree.specs.Laws.{ModulesAgree, ModulesHaveOneRun}
+use Rattle.sap_linked_agree.specs.Laws.{ModulesAgree, ModulesHaveOneRun, SystemsAgree}
 
 same_programs : (ls : Levels) (ds : List NamedDesign) → map (program_of ls) (trees ds) ≡ map (λ (p : Part). p.design.program) (map (part_of ls) ds)
 same_programs ls [] = refl
@@ -129,6 +129,9 @@ module _ (agree : LinkedRunsAgree) (parts : PartsOfLinkedRun) (keeps : DesignSta
   runs_look_alike l a b fa fb same vs us rv ru i low =
       let d = behind ls ds i low well.designs_formed in
       subst (λ (p : Part). AllZip (CyclesLookAlike p.design p.sites l) (seen_of p n vs) (seen_of p n us)) (sym d.part) (looks_alike l a b fa fb same vs us rv ru i low d)
+
+pub systems_agree : LinkedRunsAgree → SystemsAgree
+systems_agree agree ls ds wires laws well = subst RunsOfStreamsAgree (same_system ls ds wires) (agree ls (trees ds) wires laws well)
 
 pub modules_agree : LinkedRunsAgree → PartsOfLinkedRun → DesignStatesRest → DesignNumbersFit → ProgramsAreFine → ModulesAgree
 modules_agree agree parts keeps fit fine ls ds wires laws codes well n stands =

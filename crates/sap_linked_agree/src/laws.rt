@@ -1,6 +1,13 @@
 //! The laws of runs of modules of systems.
 
-ghost use Rattle.sap_linked_agree.specs.Laws.{ModulesAgree, ModulesHaveOneRun};
+ghost use Rattle.sap_linked_agree.specs.Laws.{ModulesAgree, ModulesHaveOneRun, SystemsAgree};
+
+/// On streams that agree at a level the composite runs of a system of well-formed designs agree there in every cycle, part by part, in states and refusals.
+pub fn systems_agree()
+    ensures { SystemsAgree }
+{
+    sap_link::designs::runs_agree()
+}
 
 /// On streams that agree at a level the runs of what stands for a system of well-formed designs agree there in every cycle,
 /// part by part, in states and refusals and in plain numbers.

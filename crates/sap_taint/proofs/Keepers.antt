@@ -36,12 +36,12 @@ EqualCodes o Same t u = Same × (t ≡ u) × IsCode o t
 
 pub code_joined : (o : Order) → Laws o → Codes o → (t u : ℕ) → IsCode o t → IsCode o u → IsCode o (bit_or t u)
 code_joined o laws codes t u a b =
-    (o.join a.0 b.0, (laws.join_is_level a.0 b.0, codes.joined a.0 b.0 ∙ ap₂ bit_or a.1.1 b.1.1))
+    (o.join a.0 b.0, laws.join_is_level a.0 b.0, codes.joined a.0 b.0 ∙ ap₂ bit_or a.2 b.2)
 
 pub codes_keep : (o : Order) → Laws o → Codes o → Keeps (EqualCodes o)
 codes_keep o laws codes =
     record {
-      plain = λ P p. (p, refl, (o.bottom, (laws.bottom_is_level, codes.of_bottom)));
+      plain = λ P p. (p, refl, (o.bottom, laws.bottom_is_level, codes.of_bottom));
       follow = λ P Q t u f a. (f a.0, a.1, a.2);
       joined = λ P Q t u t' u' a f. ((a.0, (f a.0).0), ap₂ bit_or a.1 (f a.0).1, code_joined o laws codes t t' a.2 (f a.0).2);
     }

@@ -1,10 +1,10 @@
--- From numbers to levels, and what the laws of whole runs need besides.
+-- From bits of tags to codes of levels, and what the laws of whole runs need besides.
 use Rattle.sap_lemmas.proofs.Common.{◌≡◌, ℕ, List, [], ◌∷◌, map, sym, ap, ◌∙◌, refl, inl, inr, ◌<◌, AllByRecursion, None}
 use Rattle.sap_lattice.specs.Prelude.{Order, Laws, Codes, code_of}
 use Rattle.sap_meaning.specs.Prelude.{Relation, InputsAgree, StreamsAgree, LookAlike, Tagged}
 use Rattle.sap_net.specs.Prelude.{Net, IsNetlist}
 use Rattle.sap_taint.specs.Runs.{TaggedNumber, TaggedValuation, IsTaintedRun, observed_with_tags}
-use Rattle.sap_taint.specs.Alike.{IsCode, AlikeWithin, AlikeInLevels, Equal, is_within, RunsRelated, InputsRelated, StreamsRelated}
+use Rattle.sap_taint.specs.Alike.{IsCode, AlikeWithin, Equal, is_within, RunsRelated, InputsRelated, StreamsRelated}
 use Rattle.sap_taint.specs.Laws.{AreCoded, HasCodes, Throughout, OneTaint, CodesStayCodes, AlikeThroughout, AgreeThroughout, with_codes, stream_with_codes, AreLevels}
 use Rattle.sap_taint.proofs.Keeps.{Keeps}
 use Rattle.sap_taint.proofs.Keepers.{alike_keeps, equal_keeps, EqualCodes, codes_keep}
@@ -57,9 +57,9 @@ within_is_low o codes l a t e = sym (codes.within a l) ∙ ap (λ n. is_within n
 
 agrees_at : (o : Order) → Codes o → (l : ℕ) (Same : Type 0) (t u : ℕ) → AlikeWithin (code_of o l) Same t u → IsCode o t → IsCode o u
     → LookAlike o (code_of o) l Same t u
-agrees_at o codes l Same t u (inl a) x y = inl (a.0, a.1, (x.0, x.1.0, x.1.1, within_is_low o codes l x.0 t x.1.1 ∙ a.2))
+agrees_at o codes l Same t u (inl a) x y = inl (a.0, a.1, (x.0, x.1, x.2, within_is_low o codes l x.0 t x.2 ∙ a.2))
 agrees_at o codes l Same t u (inr b) x y =
-    inr ((x.0, x.1.0, x.1.1, within_is_low o codes l x.0 t x.1.1 ∙ b.0), (y.0, y.1.0, y.1.1, within_is_low o codes l y.0 u y.1.1 ∙ b.1))
+    inr ((x.0, x.1, x.2, within_is_low o codes l x.0 t x.2 ∙ b.0), (y.0, y.1, y.2, within_is_low o codes l y.0 u y.2 ∙ b.1))
 
 inputs_look : (o : Order) → Codes o → (l : ℕ) (xs ys : List Tagged) → InputsAgree o l xs ys → InputsRelated (AlikeWithin (code_of o l)) (with_codes o xs) (with_codes o ys)
 inputs_look o codes l [] [] e = tt
@@ -82,7 +82,7 @@ streams_look o codes l (x ∷ xs) (y ∷ ys) e = (inputs_look o codes l x y e.0,
 
 inputs_coded : (o : Order) (xs : List Tagged) → AllByRecursion (λ x. x.level < o.count) xs → AllByRecursion (λ x. IsCode o x.tag) (with_codes o xs)
 inputs_coded o [] a = tt
-inputs_coded o (x ∷ xs) a = ((x.level, (a.0, refl)), inputs_coded o xs a.1)
+inputs_coded o (x ∷ xs) a = ((x.level, a.0, refl), inputs_coded o xs a.1)
 
 streams_coded : (o : Order) (a : List (List Tagged)) → AreLevels o a → AreCoded o (stream_with_codes o a)
 streams_coded o [] a = tt
@@ -101,28 +101,9 @@ runs_agree_at o codes l n (c ∷ cs) (d ∷ ds) r a b = (
   runs_agree_at o codes l n cs ds r.1 a.1 b.1,
 )
 
-levels_of : (o : Order) (l : ℕ) (Same : Type 0) (t u : ℕ) → LookAlike o (code_of o) l Same t u → AlikeInLevels o l Same t u
-levels_of o l Same t u (inl a) =
-    let x = a.2 in (x.0, x.0, (x.1, x.2), (x.1, x.2 ∙ a.1), inl (a.0, refl, x.3))
-levels_of o l Same t u (inr b) = let x = b.0 in let y = b.1 in (x.0, y.0, (x.1, x.2), (y.1, y.2), inr (x.3, y.3))
-
-pub runs_in_levels : (o : Order) (l : ℕ) (n : Net) (cs ds : List TaggedValuation) → RunsRelated (LookAlike o (code_of o) l) n cs ds → RunsRelated (AlikeInLevels o l) n cs ds
-runs_in_levels o l n [] [] r = tt
-runs_in_levels o l n [] (d ∷ ds) r = absurd r
-runs_in_levels o l n (c ∷ cs) [] r = absurd r
-runs_in_levels o l n (c ∷ cs) (d ∷ ds) r = (
-  record {
-    value = λ x w h. levels_of o l _ _ _ (r.0.value x w h);
-    memory = λ m s h. levels_of o l _ _ _ (r.0.memory m s h);
-  },
-  runs_in_levels o l n cs ds r.1,
-)
-
 pub agree_throughout : (o : Order) → Laws o → Codes o → (n : Net) → IsNetlist n → AgreeThroughout o n
 agree_throughout o laws codes n rules l a b cs ds la lb e ra rb =
     let r = alike_throughout n rules (code_of o l) (stream_with_codes o a) (stream_with_codes o b) cs ds (streams_look o codes l a b e) ra rb in
     let ca = codes_stay o laws codes n rules (stream_with_codes o a) cs (streams_coded o a la) ra in
     let cb = codes_stay o laws codes n rules (stream_with_codes o b) ds (streams_coded o b lb) rb in
-    let within = runs_agree_at o codes l n cs ds r.0 ca.0 cb.0 in
-    let outside = runs_agree_at o codes l n (map (observed_with_tags n) cs) (map (observed_with_tags n) ds) r.1 ca.1 cb.1 in
-    ((within, outside), (runs_in_levels o l n cs ds within, runs_in_levels o l n (map (observed_with_tags n) cs) (map (observed_with_tags n) ds) outside))
+    (runs_agree_at o codes l n cs ds r.0 ca.0 cb.0, runs_agree_at o codes l n (map (observed_with_tags n) cs) (map (observed_with_tags n) ds) r.1 ca.1 cb.1)

@@ -15,3 +15,4 @@ pub mod Tagging
 pub mod TaggingMemory
 pub mod Worked
 pub mod Woven
+pub mod Compared

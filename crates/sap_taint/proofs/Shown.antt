@@ -9,7 +9,7 @@ use Rattle.sap_taint.specs.Alike.{Equal, AreRelated, RunsRelated}
 use Rattle.sap_taint.specs.Laws.{HasCodes}
 use Rattle.sap_taint.specs.Carries.{woven, read_off, CarriesTaint, OneTaggedRun, ShowsTaint, TagsStayCodes, RunsWithTagsAgree}
 use Rattle.sap_taint.proofs.CarriesCycle.{takes_tags}
-use Rattle.sap_taint.proofs.Levels.{one_taint_of, agree_throughout, codes_stay, runs_in_levels}
+use Rattle.sap_taint.proofs.Levels.{one_taint_of, agree_throughout, codes_stay}
 
 -- a relation that holds of contents also holds of what follows from them
 abbrev Follows : Relation → Type 1
@@ -84,8 +84,7 @@ tags_stay_codes o laws codes w n m rules carries xss us e run =
 pub runs_with_tags_agree : (o : Order) → Laws o → Codes o → (w : ℕ) (n m : Net) → IsNetlist n → CarriesTaint w n m → RunsWithTagsAgree o n m
 runs_with_tags_agree o laws codes w n m rules carries l a b us vs la lb e ra rb =
     let R = LookAlike o (code_of o) l in
-    let r = (agree_throughout o laws codes n rules l a b (map read_off us) (map read_off vs) la lb e (carries.runs _ us ra) (carries.runs _ vs rb)).0 in
+    let r = (agree_throughout o laws codes n rules l a b (map read_off us) (map read_off vs) la lb e (carries.runs _ us ra) (carries.runs _ vs rb)) in
     let r' : RunsRelated R n (map (λ u. observed_with_tags n (read_off u)) us) (map (λ v. observed_with_tags n (read_off v)) vs) =
     rw (seen_map n us, seen_map n vs) r.1 in
-    let done = runs_between_equals R (agree_follow o l) n _ _ _ _ (carries.seen _ us ra) (carries.seen _ vs rb) r' in
-    (done, runs_in_levels o l n _ _ done)
+    runs_between_equals R (agree_follow o l) n _ _ _ _ (carries.seen _ us ra) (carries.seen _ vs rb) r'

@@ -5,7 +5,7 @@ use Rattle.sap_lattice.specs.Order.{Order}
 use Rattle.sap_lattice.specs.Codes.{code_of}
 use Rattle.sap_maps.specs.Maps.{Name}
 use Rattle.sap_maps.specs.Scope.{find}
-use Rattle.sap_meaning.specs.Agree.{Relation, AlikeBy, Alike}
+use Rattle.sap_meaning.specs.Agree.{Relation, AlikeBy}
 use Rattle.sap_net.specs.Net.{Net}
 use Rattle.sap_net.specs.IsNetlist.{readable, shapes}
 use Rattle.sap_taint.specs.Runs.{TaggedNumber, TaggedValuation}
@@ -22,16 +22,9 @@ is_within t c = bit_or t c == c
 abbrev pub AlikeWithin : (c : ℕ) → Relation
 AlikeWithin c = AlikeBy (λ t. is_within t c ≡ true) (λ t. is_within t c ≡ false)
 
--- t is the code of the level a
-abbrev pub IsCodeOf : Order → (a t : ℕ) → Type 0
-IsCodeOf o a t = (a < o.count) × (code_of o a ≡ t)
-
+-- t is the code of a level
 abbrev pub IsCode : Order → (t : ℕ) → Type 0
-IsCode o t = (a : ℕ) × IsCodeOf o a t
-
--- their tags are the codes of levels with which they look alike at l
-abbrev pub AlikeInLevels : Order → (l : ℕ) → Relation
-AlikeInLevels o l Same t u = (a : ℕ) × (b : ℕ) × IsCodeOf o a t × IsCodeOf o b u × Alike o l Same a b
+IsCode o t = (a : ℕ) × (a < o.count) × (code_of o a ≡ t)
 
 -- Every input, wire and register is so related, its content being its number, and every memory, its content being all its cells.
 pub record AreRelated (R : Relation) (n : Net) (c d : TaggedValuation) : Type 0 where

@@ -14,7 +14,7 @@ use Rattle.sap_net.specs.Laws.{AreSameRuns}
 use Rattle.sap_interface.specs.Compiled.{coded_stream}
 use Rattle.sap_taint.specs.TagNames.{name_of_tag}
 use Rattle.sap_taint.specs.Runs.{TaggedNumber, TaggedValuation, IsTaintedRun, observed_with_tags}
-use Rattle.sap_taint.specs.Alike.{AlikeInLevels, Equal, RunsRelated}
+use Rattle.sap_taint.specs.Alike.{Equal, RunsRelated}
 use Rattle.sap_taint.specs.TaggedForm.{HasTaggedForm}
 use Rattle.sap_taint.specs.Laws.{AreCoded, HasCodes, stream_with_codes, AreLevels}
 
@@ -68,10 +68,10 @@ TagsStayCodes o n m =
     (xss : List (List TaggedNumber)) (us : List Valuation) → AreCoded o xss → IsRun m (map woven xss) us
     → AllByRecursion (HasCodes o n) (observed_in m us)
 
--- On streams that agree at l, levels given as codes, what is seen of its runs agrees there in every cycle, in plain numbers and in levels.
+-- On streams that agree at l, levels given as codes, what is seen of its runs agrees there in every cycle: its tags are the codes of levels, by which it looks
+-- alike at l.
 abbrev pub RunsWithTagsAgree : Order → (n m : Net) → Type 0
 RunsWithTagsAgree o n m =
     (l : ℕ) (a b : List (List Tagged)) (us vs : List Valuation) → AreLevels o a → AreLevels o b → StreamsAgree o l a b
     → IsRun m (map woven (stream_with_codes o a)) us → IsRun m (map woven (stream_with_codes o b)) vs
     → RunsRelated (LookAlike o (code_of o) l) n (observed_in m us) (observed_in m vs)
-    × RunsRelated (AlikeInLevels o l) n (observed_in m us) (observed_in m vs)

@@ -13,7 +13,7 @@ use Rattle.sap_net.specs.IsNetlist.{readable, shapes}
 use Rattle.sap_net.specs.Runs.{IsRun}
 use Rattle.sap_taint.specs.TagNames.{IsClash, HasRoomForTags}
 use Rattle.sap_taint.specs.Runs.{TaggedNumber, numbers_of, TaggedValuation, IsTaintedRun, observed_with_tags}
-use Rattle.sap_taint.specs.Alike.{IsCode, AlikeWithin, AlikeInLevels, Equal, RunsRelated, StreamsRelated}
+use Rattle.sap_taint.specs.Alike.{IsCode, AlikeWithin, Equal, RunsRelated, StreamsRelated}
 
 -- There is room for tags, or a first clash.
 abbrev pub RoomOrClash : Net → Type 0
@@ -73,9 +73,9 @@ stream_with_codes o stream = map (with_codes o) stream
 abbrev pub AreLevels : Order → List (List Tagged) → Type 0
 AreLevels o stream = AllByRecursion (AllByRecursion (λ x. x.level < o.count)) stream
 
--- Runs on streams that agree at l agree there in every cycle: in plain numbers, tags being codes, and in levels.
+-- Runs on streams that agree at l agree there in every cycle: their tags are the codes of levels, by which they look alike at l.
 abbrev pub AgreeThroughout : Order → Net → Type 0
 AgreeThroughout o n =
     (l : ℕ) (a b : List (List Tagged)) (cs ds : List TaggedValuation) → AreLevels o a → AreLevels o b → StreamsAgree o l a b
     → IsTaintedRun n (stream_with_codes o a) cs → IsTaintedRun n (stream_with_codes o b) ds
-    → Throughout (LookAlike o (code_of o) l) n cs ds × Throughout (AlikeInLevels o l) n cs ds
+    → Throughout (LookAlike o (code_of o) l) n cs ds

@@ -7,3 +7,4 @@ pub mod Laws
 pub mod Carries
 pub mod Examples
 pub mod Worked
+pub mod Comparing

@@ -1,7 +1,8 @@
-//! Small netlists: the names of their tags, their taint, and two that carry the taint of another.
+//! Small netlists: the names of their tags, their taint, cycles that agree or don't, and two that carry the taint of another.
 
 ghost use Rattle.sap_taint.specs.Carries.{CarriesTaint};
 ghost use Rattle.sap_taint.specs.Examples.{handing_on, handing_tags_on, storing, storing_tags};
+ghost use Rattle.sap_taint.specs.Comparing.{ComparedTaint};
 ghost use Rattle.sap_taint.specs.Worked.{WorkedNames, WorkedClashes, WorkedTags, HandsOn, Stores, AreNetlists};
 
 /// What tags are named, and where their names clash.
@@ -22,4 +23,9 @@ pub fn worked_taint()
 pub fn worked_tagging()
     ensures hands_on { CarriesTaint 1 handing_on handing_tags_on }
     ensures stores { CarriesTaint 2 storing storing_tags }
+{}
+
+/// Cycles with tags that differ in high things alone agree at low, and those that differ in a low one don't.
+pub fn compared_taint()
+    ensures { ComparedTaint }
 {}

@@ -9,7 +9,7 @@ abbrev pub taint_text : TaintFault → List ℕ
 taint_text (Clash x) = codes "X1 " ++ x
 taint_text Memory = codes "memory"
 
--- A fault names the first clash; want of memory says nothing.
+-- A fault names the first clash.
 abbrev pub IsTaintFault : Net → TaintFault → Type 0
 IsTaintFault n (Clash x) = IsClash n x
-IsTaintFault n Memory = Unit {0}
+IsTaintFault n Memory = ⊥

@@ -1,9 +1,10 @@
 //! The names of tags, and which are taken.
 
-ghost use Rattle.std.specs.Prelude.{◌≡◌, ◌∷◌, ◌++◌, map, IfOk, IfErr, option_copied};
+ghost use Rattle.std.specs.Prelude.{◌≡◌, ◌≢◌, ◌∷◌, ◌++◌, map, IfOk, IfErr, option_copied};
 ghost use Rattle.sap_net.specs.PortNames.{value_of};
 ghost use Rattle.sap_taint.specs.TagNames.{name_of_tag, HasRoomForTags};
 ghost use Rattle.sap_taint_pass.specs.FaultTexts.{IsTaintFault};
+ghost use Rattle.sap_taint_pass.specs.declared.fault.TaintFault.TheVariants.{Memory};
 
 use crate::fault::TaintFault;
 use sap_net::netlist::Netlist;
@@ -47,7 +48,7 @@ fn declared(alloc: Global, netlist: &Netlist) -> Result<Places, AllocError>
 pub fn index_tags(alloc: Global, netlist: &Netlist) -> Result<Places, TaintFault>
     ensures room { IfOk result (λ taken. HasRoomForTags netlist.now) }
     ensures taken { IfOk result (λ taken. taken ≡ netlist.now.module_name ∷ netlist.now.names ++ map name_of_tag netlist.now.names) }
-    ensures clash { IfErr result (λ fault. IsTaintFault netlist.now fault) }
+    ensures clash { IfErr result (λ fault. fault ≢ Memory → IsTaintFault netlist.now fault) }
 {
     netlist.rules();
     let mut taken = declared(alloc, netlist)?;

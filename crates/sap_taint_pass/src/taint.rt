@@ -1,6 +1,6 @@
 //! The call that adds tags to a netlist.
 
-ghost use Rattle.std.specs.Prelude.{◌≡◌, IfOk, IfErr};
+ghost use Rattle.std.specs.Prelude.{◌≡◌, ◌≢◌, IfOk, IfErr};
 ghost use Rattle.sap_lattice.specs.Codes.{width_of};
 ghost use Rattle.sap_lattice.specs.Levels.{order_of};
 ghost use Rattle.sap_net.specs.Net.{net_of};
@@ -8,6 +8,7 @@ ghost use Rattle.sap_taint.specs.Carries.{CarriesTaint, TakesTags, OneTaggedRun,
 ghost use Rattle.sap_taint.specs.TaggedForm.{HasTaggedForm};
 ghost use Rattle.sap_taint.specs.TagNames.{HasRoomForTags};
 ghost use Rattle.sap_taint_pass.specs.FaultTexts.{IsTaintFault};
+ghost use Rattle.sap_taint_pass.specs.declared.fault.TaintFault.TheVariants.{Memory};
 ghost use Rattle.sap_taint_pass.specs.Helped.{begun, driven};
 ghost use Rattle.sap_taint_pass.specs.Helping.{tainted};
 ghost use Rattle.sap_taint_pass.specs.Small.{HasFewItems};
@@ -77,7 +78,7 @@ pub fn taint(alloc: Global, netlist: &Netlist, lattice: &Lattice) -> Result<Netl
     ensures codes { IfOk result (λ m. TagsStayCodes (order_of lattice.now) netlist.now m) }
     ensures agree { IfOk result (λ m. RunsWithTagsAgree (order_of lattice.now) netlist.now m) }
     ensures small { IfOk result (λ m. HasFewItems netlist.now m) }
-    ensures clash { IfErr result (λ fault. IsTaintFault netlist.now fault) }
+    ensures clash { IfErr result (λ fault. fault ≢ Memory → IsTaintFault netlist.now fault) }
 {
     netlist.rules();
     lattice.lawful();

@@ -17,7 +17,7 @@ returns-then-holds-clause-clash c =
     let t : clashes n (take k ns) x ≡ true =
     subst (λ (y : Name). is_among y taken ≡ true) tag (subst (λ (xs : List Name). is_among c.in_ok-tag.tag xs ≡ true) c.loop-name.invariant.0 found) in
     let same : x ≡ c.in_ok-copy.field-0 = search rules in
-    subst (IsClash n) same (is_clash n ns c.names-names.ensures k x (omega arith) c.name-item.is c.loop-name.invariant.1 t)
+    λ other. subst (IsClash n) same (is_clash n ns c.names-names.ensures k x (omega arith) c.name-item.is c.loop-name.invariant.1 t)
 
 pub loop-name-preserved : goal.loop-name-preserved
 loop-name-preserved c =
