@@ -5,6 +5,7 @@ use Rattle.sap_lattice.specs.Prelude.{code_of, meet_irreducibles}
 use Rattle.sap_maps.specs.Maps.{Valuation}
 use Rattle.sap_meaning.specs.Prelude.{authority, children, entity, is_dynamic, is_register, is_memory, is_state, width, Store, Slot, own, start, next, start_whole, next_whole, owner, held, number, level, same_slot, Refusal, put_number, put_level, first, first_level, Alike, Low, High, SlotsAlike, StatesAgree, Resting, path_from, ActiveState, active_path, child, PathsRelated, LookAlike}
 use Rattle.sap_meaning.specs.Codes.{IsLowCode, IsHighCode}
+use Rattle.sap_meaning.specs.Sites.{numbers_from, refused_sites, Sublist}
 use Rattle.sap_meaning.specs.Examples.{two_levels, enforced_states, refused_at}
 use Rattle.sap_net.specs.PortNames.{refused_name, refused_level_name}
 use Rattle.sap_interface.specs.StandsFor.{world, StandsFor, IsRefused, IsRefusedAt}
@@ -151,12 +152,12 @@ levels_fit n z = elim (cases_Bool (same_slot z (own 1))) [ inl is ↦ rw is (ome
 is_state_of : (n : ℕ) → n < 2 ^ 8 → IsState compared_design (with_x n)
 is_state_of n small = record { rests = rests n; fits = record { numbers = numbers_fit n small; levels = levels_fit n } }
 
-stands : (n refused tag : ℕ) (rs : List Refusal)
+stands : (n refused tag : ℕ) (rs : List Refusal) → Sublist (refused_sites rs) (numbers_from 1 3)
     → ((k : ℕ) → 1 ≤ k → k ≤ 3 → ((shows_x n refused tag).value (refused_name k) ≡ 1) ↔ IsRefused rs k)
     → ((k t : ℕ) → IsRefusedAt rs k t → (shows_x n refused tag).value (refused_level_name k) ≡ code t)
     → StandsFor compared_design 3 (shows_x n refused tag) (with_x n) rs
 unfolding first put_number put_level code_of meet_irreducibles
-stands n refused tag rs refusals levels = record {
+stands n refused tag rs sites refusals levels = record {
   register_values = one_register (λ x. shown_value compared_design (shows_x n refused tag) x ≡ number (own x) (with_x n)) refl;
   register_tags = one_register (λ x. shown_tag compared_design (shows_x n refused tag) x ≡ code (level (world compared_design) (own x) (with_x n))) refl;
   cells = λ m i is below. absurd (no_memory m is);
@@ -165,8 +166,9 @@ stands n refused tag rs refusals levels = record {
   state_tags = two_states (λ x. shown_tag compared_design (shows_x n refused tag) x ≡ code (level (world compared_design) (own x) (with_x n))) refl refl;
   seats = λ p below some. absurd (no_parent p below some);
   root_seat = refl;
+  refused_sites = sites;
   refusals = refusals;
-  refusal_levels = λ k t i j is. levels k t is;
+  refusal_levels = levels;
 }
 
 -- site 1 is refused at high, and no other
@@ -219,8 +221,8 @@ cycles = record {
   high_things = record {
     one = record { store = with_x 5; refused = refused_at 1 1 ∷ [] };
     other = record { store = with_x 6; refused = [] };
-    one_stands = stands 5 1 1 (refused_at 1 1 ∷ []) at_one at_high;
-    other_stands = stands 6 0 0 [] nowhere (λ k t is. absurd is);
+    one_stands = stands 5 1 1 (refused_at 1 1 ∷ []) (inl (refl, tt)) at_one at_high;
+    other_stands = stands 6 0 0 [] tt nowhere (λ k t is. absurd is);
     one_is_state = is_state_of 5 (omega arith);
     other_is_state = is_state_of 6 (omega arith);
     states = high_states;
@@ -246,7 +248,7 @@ cycles = record {
 }
   where
     told_at : {v : Valuation} {s : Store} {rs : List Refusal} → StandsFor compared_design 3 v s rs → (t : ℕ) → IsRefusedAt rs 1 t → v.value (refused_level_name 1) ≡ code t
-    told_at p t is = p.refusal_levels 1 t (omega arith) (omega arith) is
+    told_at p t is = p.refusal_levels 1 t is
 
 -- what the numbers show
 
