@@ -2,3 +2,8 @@ pub mod Instructions
 pub mod Sliced
 pub mod Assembled
 pub mod Texts
+pub mod Reading
+pub mod Programs
+pub mod Streams
+pub mod Ends
+pub mod Canonical

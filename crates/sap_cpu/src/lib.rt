@@ -3,6 +3,7 @@
 
 pub mod assemble;
 pub mod cpu;
+pub mod law;
 mod line;
 pub mod machine;
 mod state;

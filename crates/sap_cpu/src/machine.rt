@@ -7,10 +7,11 @@ ghost use Rattle.sap_tree.specs.Designs.{design_of};
 ghost use Rattle.sap_shape.specs.WellFormed.{WellFormed};
 ghost use Rattle.sap_resolved.specs.Fill.{program_of};
 ghost use Rattle.sap_machine.specs.Design.{machine_design};
+ghost use Rattle.sap_machine.specs.Laws.{OthersDontCount, OthersWordsDontCount, RefusesTheWords, RunsTheTable, WordsDecide};
 ghost use Rattle.sap_machine.specs.Machine.{machine};
 
 use sap_lex::fault::ReadFault;
-use sap_machine::design_is_sound;
+use sap_machine::{design_is_sound, machine_runs_the_table, users_are_apart};
 use sap_parse::law::one_reading;
 use sap_parse::parse;
 use sap_tree::design::Design;
@@ -134,13 +135,21 @@ state Run enforced low {
 }
 ";
 
-/// The design of the machine, read from its text; `sap_machine` has the laws of its program.
+/// The design of the machine, read from its text. In every run of it the kernel keeps of both users what the instruction table says
+/// after each slice, the words that aren't at or below their user's level are refused, and neither user counts for the other.
 pub fn machine(alloc: Global) -> Result<Design, AllocError>
     ensures design { IfOk result (λ design. bare (design_of design) ≡ bare machine_design) }
     ensures well_formed { IfOk result (λ design. WellFormed diamond (design_of design)) }
     ensures program { IfOk result (λ design. program_of diamond (design_of design) ≡ machine) }
+    ensures runs { IfOk result (λ design. RunsTheTable (program_of diamond (design_of design))) }
+    ensures refuses { IfOk result (λ design. RefusesTheWords (program_of diamond (design_of design))) }
+    ensures words { IfOk result (λ design. WordsDecide (program_of diamond (design_of design))) }
+    ensures agreeing { IfOk result (λ design. OthersDontCount (program_of diamond (design_of design))) }
+    ensures differing { IfOk result (λ design. OthersWordsDontCount (program_of diamond (design_of design))) }
 {
     design_is_sound();
+    machine_runs_the_table();
+    users_are_apart();
     one_reading();
     match parse(alloc, MACHINE_TEXT) {
         Ok(design) => Ok(design),

@@ -1,7 +1,8 @@
-use Rattle.std.proofs.Common.{◌≡◌, ap, ◌∙◌}
+use Rattle.std.proofs.Common.{◌≡◌, sym, ap, subst, ◌∙◌}
 use Rattle.sap_tree.specs.Prelude.{bare, design_of}
 use Rattle.sap_machine.specs.Design.{machine_design}
 use Rattle.sap_machine.specs.DesignText.{machine_text}
+use Rattle.sap_machine.specs.Laws.{OthersDontCount, OthersWordsDontCount, RefusesTheWords, RunsTheTable, WordsDecide}
 use Rattle.sap_cpu.proofs.machine.machine.Goals as goal
 
 pub unreachable-requires : goal.unreachable-requires
@@ -16,4 +17,14 @@ returns-in-Ok c =
     let same : bare (design_of c.in-Ok.design) ≡ bare machine_design =
     ap bare (c.one_reading.ensures.one_design machine_text (design_of c.in-Ok.design) known.0 (c.in-Ok.ensures {u = tt}).design known.1) ∙ known.2 in
     let kept = sound.places (design_of c.in-Ok.design) same in
-    record { design = same; well_formed = kept.0; program = kept.1 }
+    let is = sym kept.1 in
+    record {
+      design = same;
+      well_formed = kept.0;
+      program = kept.1;
+      runs = subst RunsTheTable is c.machine_runs_the_table.ensures.runs;
+      refuses = subst RefusesTheWords is c.machine_runs_the_table.ensures.refuses;
+      words = subst WordsDecide is c.users_are_apart.ensures.words;
+      agreeing = subst OthersDontCount is c.users_are_apart.ensures.agreeing;
+      differing = subst OthersWordsDontCount is c.users_are_apart.ensures.differing;
+    }
