@@ -1,17 +1,31 @@
--- The clauses of `machine`, `asm` and `cpu` follow from what they ask.
-use Rattle.sap_lemmas.proofs.Common.{◌≡◌, ◌≢◌, ℕ, List, ◌++◌, refl, sym, ◌∙◌, ap, subst, inl, inr, ◌⊎◌, Option, Some, None, Result, Ok, Err}
+-- The clauses of `machine`, `asm`, `cpu`, and of `run` on what the first two write, follow from what they ask.
+use Rattle.sap_lemmas.proofs.Common.{◌≡◌, ◌≢◌, ℕ, List, ◌++◌, refl, sym, ◌∙◌, ap, ap₂, subst, inl, inr, ◌⊎◌, Option, Some, None, Result, Ok, Err, some_unique}
 use Rattle.sap_desk.specs.Desk.{Told}
 use Rattle.sap_desk.specs.Whole.{Between, Gained}
+use Rattle.sap_lattice.specs.Diamond.{diamond}
+use Rattle.sap_lattice.specs.Levels.{Levels}
+use Rattle.sap_tree.specs.Bare.{bare}
+use Rattle.sap_parse.specs.Text.{IsText}
+use Rattle.sap_show.specs.Canonical.{canonical_text}
+use Rattle.sap_sim.specs.Labelled.LabelledRows.{labelled_rows}
+use Rattle.sap_sim.specs.Labelled.RunOf.{read_for}
 use Rattle.sap_machine.specs.Assembly.{Assembled, assembled}
+use Rattle.sap_machine.specs.Design.{machine_design}
+use Rattle.sap_machine.specs.DesignText.{machine_text}
 use Rattle.sap_machine.specs.Text.{refusal_text as assembly_text, in_file, of_both, stimulus_text, users_text}
 use Rattle.sap_machine.specs.declared.fault.AsmFault.{AsmFault}
 use Rattle.sap_machine.proofs.Sound.{text_is}
-use Rattle.sap_words.specs.Words.{Words, command_of, machine, asm, cpu}
-use Rattle.sap_files.specs.Prelude.{Ending, done, refused, asm_refused, line, status_of, line_of, Cause, Output, Shows, asks_programs}
+use Rattle.sap_cpu.specs.Ends.{EndsAsPrinted}
+use Rattle.sap_cpu.proofs.Canonical.{machine_read, read_is_machine}
+use Rattle.sap_cpu.proofs.Ends.{runs_end_as_printed}
+use Rattle.sap_words.specs.Words.{Words, command_of, run, machine, asm, cpu}
+use Rattle.sap_files.specs.Prelude.{Ending, done, refused, asm_refused, line, status_of, line_of, end_of, Cause, Has, Output, Shows, asks_programs, design_file, lattice_file}
 use Rattle.sap_commands.specs.Commands.{asks, asks_for, asks_if}
 use Rattle.sap_commands.proofs.CommandLaws.{one_cause_lem}
+use Rattle.sap_files.proofs.Lattices.{lattice_lawful}
+use Rattle.sap_files.proofs.Lawful.{one_value}
 use Rattle.sapper.specs.Answers.{Answers}
-use Rattle.sapper.specs.Machines.{GivesOfBoth, Machines}
+use Rattle.sapper.specs.Machines.{AreForMachine, GivesOfBoth, Machines}
 use Rattle.sapper.proofs.Headline.{by_cause, done_alone}
 
 -- ---- what two texts give
@@ -75,6 +89,32 @@ module _ (gives : (a b : List ℕ) → List ℕ) (first second : List ℕ) (t : 
       )
     ]
 
+-- ---- a `run` on what `machine` and `asm` write
+
+module _ (lattice design stimulus : List ℕ) (t : Told) (x y : List ℕ) (slices : ℕ) (given : AreForMachine lattice design stimulus t x y slices) where
+  shows_end : (gained : List ℕ) → Shows (asks (run lattice design stimulus)) t done gained → EndsAsPrinted x y slices gained
+  shows_end gained (inl ((why, is, at), none)) = absurd (cc)
+  shows_end gained (inr (ls, has, inl ((why, is, at), none))) = absurd (cc)
+  shows_end gained (inr (ls, has, inr (d, is, (bytes, there, ends, (fault, rows))))) =
+      let levels : ls ≡ diamond = one_value lattice_file lattice_lawful t lattice ls diamond has given.levels in
+      let source : is.bytes ≡ machine_text = some_unique (t.files design) is.bytes (canonical_text machine_design) is.file given.machine ∙ text_is in
+      let same : bare d ≡ bare machine_design = read_is_machine d (subst (λ (b : List ℕ). IsText b d) source is.stands.is_text) in
+      let text : bytes ≡ given.text = some_unique (t.files stimulus) bytes given.text there given.file in
+      let shown : gained ≡ labelled_rows diamond d (read_for diamond d given.text).stream =
+      rows.text ∙ ap₂ (λ (l : Levels) (b : List ℕ). labelled_rows l d (read_for l d b).stream) levels text in
+      subst (EndsAsPrinted x y slices) (sym shown) (runs_end_as_printed d x y given.text slices same given.of_asm given.count).1
+
+  run_done : Cause (asks (run lattice design stimulus)) t done
+  run_done =
+      let (d, is_text, formed, same) = machine_read in
+      let is : Has t design (design_file diamond) d = record {
+        bytes = canonical_text machine_design;
+        file = given.machine;
+        stands = record { is_text = subst (λ (b : List ℕ). IsText b d) (sym text_is) is_text; well_formed = formed };
+      } in
+      let taken = (runs_end_as_printed d x y given.text slices same given.of_asm given.count).0 in
+      inr (diamond, given.levels, inr (d, is, (given.text, given.file, ap end_of (sym taken))))
+
 -- ---- of a call
 
 module _ (words : List (List ℕ)) (lost now answer : ℕ) (t n : Told) (a : Answers words lost now answer t n) where
@@ -118,6 +158,12 @@ module _ (words : List (List ℕ)) (lost now answer : ℕ) (t n : Told) (a : Ans
         of_programs (λ a b. stimulus_text a b slices) first second (asm first second slices) is (λ e cause. cause) (λ shows. shows);
     users = λ first second slices is.
         of_programs (λ a b. users_text a b slices) first second (cpu first second slices) is (λ e cause. cause) (λ shows. shows);
+    runs = λ lattice design stimulus is. record {
+      only = λ zero x y slices given.
+          (a.gained, a.output, shows_end lattice design stimulus t x y slices given a.gained (gained_by (run lattice design stimulus) is zero));
+      always = λ x y slices given no_failure no_want.
+          a.status ∙ ap status_of (ends_as (run lattice design stimulus) is done (run_done lattice design stimulus t x y slices given) no_failure no_want);
+    };
   }
 
 -- between what a desk tells before and after
