@@ -29,9 +29,17 @@ Example:
     reg x : 8 dynamic
     state S enforced low { goto S; }
 
-Cure: Look at what stands just before the place: here `;` is missing behind `dynamic`. A design has
-its declarations first, then one state or more. `then` and `case` need the first line `sapper 2;`, and
-behind a first word `sapper` stand exactly `2` and `;`.
+Cure: Look at what stands just before the place. In the example `;` is missing behind `dynamic`. A
+design has its declarations first, then one state or more.
+
+Often met, with the token of the place in front:
+
+    if        in `else if (..)`: write `else { if (..) { .. } }`
+    [         in `reg [7:0] x`: the width is behind the name, `reg x : 8 dynamic;`
+    <= or =   in `x <= 1;` or `x = 1;`: an assignment is `:=`, and `<=` compares
+    level     in `reg level : 8`: a keyword is no name
+    }         at the end of a `case`: its last block is `else { .. }`
+    then, (   in `k then {`, `case (`: they need the first line `sapper 2;`, exactly so
 ";
 
 const E3: &str = "E3: a name is declared twice.
@@ -71,7 +79,13 @@ Example:
     input a : 8;
     state S enforced low { a := 1; goto S; }
 
-Cure: Use an entity of the right kind: here a register in place of the input.
+Cure: Use an entity of the right kind. In the example that is a register in place of the input.
+
+Often met:
+
+    x[3]      of a register or an input: bit 3 is `x[3:3]`, and bit n is `(x >> n)[0:0]`
+    x := m    of a memory: read a cell, `m[0]`
+    a := 1    of an input: what surrounds the module drives it
 ";
 
 const E6: &str = "E6: a name of a level is no level of the lattice file.
@@ -114,6 +128,12 @@ Example:
 
 Cure: Write a smaller number, or widen what it is written to. Arithmetic wraps around, a written
 number doesn't.
+
+Often met:
+
+    a && b == 2   `&b` is one bit, which 2 doesn't fit: write `a & b == 2`
+    m[4]          of a memory of 4 cells: its index has 2 bits, so the last cell is `m[3]`
+    x == 16       of 4 bits, and `16:` in a `case` of them: no such x
 ";
 
 const E9: &str = "E9: the declared tag isn't at or above the authority.

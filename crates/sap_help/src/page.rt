@@ -34,7 +34,7 @@ const STATUSES: &str = "Statuses:
   0  done
   1  the design is refused: `design: CODE LINE:COL`; or that of a part: `part NAME: CODE LINE:COL`
   2  the words are no command: `words`; or LEVEL is no level: `level WORD`
-  3  the lattice is refused: `lattice: CODE` and its names or positions
+  3  the lattice is refused: `lattice: CODE` and, behind L3 to L7, a number or two names
   4  a stimulus is refused: `stimulus F: CODE line N`
   5  the module is refused: `module: CODE LINE:COL`; or it has no name left for a tag: `module: X1 NAME`
   6  a call on a file or on the output failed: `desk: NAME`

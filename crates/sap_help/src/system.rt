@@ -41,7 +41,7 @@ Cure: List the parts, at least one, each with the file of its design.
 const K4: &str = "K4: a part has no name that it may have.
 
 The number behind the code is the part, from 1. A name is a letter and then letters and digits, at most
-40 bytes, no keyword and no earlier part's. It has no `_`.
+40 bytes, no keyword of version 1 and no earlier part's. It has no `_`.
 
 Example:
 

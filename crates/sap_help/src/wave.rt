@@ -6,7 +6,7 @@ ghost use Rattle.sap_help.specs.Codes.{IsTextOf, is_one_of, wave_codes};
 use crate::text::text_of;
 
 const Y1: &str =
-    "Y1: a line isn't of a form for its position or has no line feed, or the file ends too early.
+    "Y1: a line isn't of a form for its position or has no line feed, or the file ends before block 0 begins.
 
 The line's number stands behind the code; the end of the file counts as the line after the last. The
 lines are, in this order: `$timescale 1ns $end`, `$scope module top $end`, a `$var reg W ID NAME $end`
