@@ -66,7 +66,7 @@ DAMAGES = (
     ("the kernel keeps an earlier outcome", "  outcome := 5;\n  word", "  outcome := 3;\n  word"),
     ("a slice is longer", "left := 62;", "left := 63;"),
     ("b begins", "reg who : 1 enforced low = 1;", "reg who : 1 enforced low = 0;"),
-    ("a's words are b's", "memory_b[left] := code_b;", "memory_b[left] := code_a;"),
+    ("a's words are b's", "memory_b[number] := code_b;", "memory_b[number] := code_a;"),
     ("b's put shows what it read", "put_b := outcome == 6 ? result : put_b;", "put_b := outcome == 6 ? read : put_b;"),
     ("halted is forgotten", "halted_b := halted_b | outcome == 0;", "halted_b := outcome == 0;"),
 )
