@@ -32,7 +32,8 @@ pub record IsIdle (xs : List Variable) (o : OpenBlock) (digits id : List ℕ) : 
   pub known : IsKnown xs id
   pub same : number_now o id ≡ Some (bits_number digits)
 
--- what is wrong with a line of a form that has this position; a block is the next one's end only where no variable lacks a number, as can be in block 0
+-- What is wrong with a line whose form has this position. Where the line begins the next block, it is Y5 if a variable
+-- lacks a number, which can be so in block 0 alone.
 abbrev pub IsWrong : State → Form → WaveCode → Type 0
 IsWrong (declaring xs) (variable width id name) Y2 = Misdeclared xs width id name
 IsWrong (before_blocks xs) (block n) Y4 = digits_value 10 n ≢ 0
