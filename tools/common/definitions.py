@@ -116,9 +116,10 @@ class Definitions:
         made = Definition(module.path, name, kind)
         made.spans.append((run[0].start, run[-1].end))
         made.run, made.clauses, made.block, made.section, made.module = run, [], block, section, module
-        if name in module.own:
-            raise Unread(f"{name} is defined twice", run[0].start)
-        module.own[name] = made
+        if kind != "section":
+            if name in module.own:
+                raise Unread(f"{name} is defined twice", run[0].start)
+            module.own[name] = made
         module.order.append(made)
         return made
 
@@ -131,7 +132,7 @@ class Definitions:
                 self.block(module, run[at + 1:], run[0].start, section)
             elif head == "module":
                 where = first_at(run, "where")
-                made = self.add(module, f"module at line {self.line(module.path, run[0].start)}", "section", run[:where + 1], block, section)
+                made = self.add(module, self.sources[module.path][run[0].start:run[where].start].strip(), "section", run[:where + 1], block, section)
                 self.block(module, run[where + 1:], block, made)
             elif head in ("data", "record"):
                 made = last = self.add(module, run[at + 1].text, head, run, block, section)
@@ -284,7 +285,12 @@ class Definitions:
                     if inner:
                         return [inner]
             return found
-        def found(words):
+        def found(words, is_bound):
+            if is_bound:
+                home = scope.modules.get(words[0].text)
+                if home and len(words) > 1 and self.in_module(home, words[1].text):
+                    self.miss(path, words[0].start, f"{made.name} binds {words[0].text}, which is a module's name too")
+                return
             hits = dotted(words) if len(words) > 1 else bare(words[0].text)
             end = words[-1].end if len(words) > 1 and words[0].text in scope.modules else words[0].end
             for hit in hits:

@@ -51,6 +51,11 @@ def matching(text, at):
     return len(text)
 
 
+def plain(text):
+    """The text without comments, and with one space where it has white space."""
+    return re.sub(r"\s+", " ", re.sub(r"--[^\n]*|//[^\n]*", " ", text)).strip()
+
+
 def without_comments(text):
     """The text of a file of code with each comment blanked, so that places stay."""
     return re.sub(r'"(?:\\.|[^"\\])*"|//[^\n]*', lambda it: it[0] if it[0].startswith('"') else " " * len(it[0]), text)

@@ -6,6 +6,8 @@ CLOSERS = {"(": ")", "{": "}", "[": "]"}
 RESERVED = set("data record deriving module where use mod pub package open as unfoldable abbrev axiom unfold unfolding ruleset mutual "
                "infix infixl infixr elim let in do λ ∀ Type 𝕀 𝔽 coe fcoe tcoe hcom com ∨ ∧".split())
 PLAIN = {"→", "×", "=", ":", "Type", "_", "|", "↦"}
+# What binds less than `×`.
+LOOSER = {"→", "⊎", "↔", "≃", "∨₁"}
 UNREAD = {"deriving", "do", "←", "where", "open", "axiom", "ruleset", "coe", "hcom", "com", "𝕀"}
 
 
@@ -94,16 +96,17 @@ def is_number(text):
 
 
 class Reading:
-    """Reads terms and patterns. `found(path, is_alone)` is told each name that no binder of the term brings; `is_constructor(name)`
-    says whether a bare name in a pattern stands for a constructor; and `is_part(name)`, whether it is a part of an operator."""
+    """Reads terms and patterns. `found(path, is_bound)` is told each name, and whether a binder of the term brings it;
+    `is_constructor(name)` says whether a bare name in a pattern stands for a constructor, and `is_part(name)`, whether it is a part of
+    an operator."""
 
     def __init__(self, found, is_constructor, is_part):
         self.found, self.is_constructor, self.is_part = found, is_constructor, is_part
 
     def named(self, path, own):
         head = path[0].text
-        if not (head in PLAIN or is_number(head) or head in own):
-            self.found(path)
+        if not (head in PLAIN or is_number(head)):
+            self.found(path, head in own)
 
     def pattern(self, words):
         """The names that a pattern binds."""
@@ -179,23 +182,30 @@ class Reading:
         return own
 
     def term(self, words, own):
-        """Reads a term in which the names of `own` are bound."""
-        base, at = own, 0
+        """Reads a term in which the names of `own` are bound. A binder before `×` reaches up to the next sign that binds less."""
+        base, before_product, at = own, None, 0
         while at < len(words):
             word = words[at]
             if word.kind == "group":
-                own = self.group(word, own)
+                bound = self.group(word, own)
                 at += 1
+                if bound != own and first_at(words[at:at + 1], "→", "×") == 0:
+                    before_product = own if words[at].is_word("×") and before_product is None else before_product
+                    at += 1
+                own = bound
                 while at + 1 < len(words) and words[at].is_sign(".") and words[at].start == words[at - 1].end:
                     at += 2
             elif word.kind == "text":
                 at += 1
             elif word.is_sign(",") or word.is_sign(";") or word.is_word("|"):
-                own = base
+                own, before_product = base, None
+                at += 1
+            elif before_product is not None and word.kind == "word" and word.text in LOOSER:
+                own, before_product = before_product, None
                 at += 1
             elif word.is_word("λ"):
                 dot = first_at(words[at:], ".") + at
-                own = own | self.binders(words[at + 1:dot], own)
+                own, before_product = own | self.binders(words[at + 1:dot], own), None
                 at = dot + 1
             elif word.is_word("let"):
                 end = self.end_of_let(words, at + 1)
@@ -204,7 +214,7 @@ class Reading:
                 colon = first_at(middle[:equal], ":")
                 self.term(middle[colon + 1:equal], own)
                 self.term(middle[equal + 1:], own)
-                own = own | self.binders(middle[:colon], own)
+                own, before_product = own | self.binders(middle[:colon], own), None
                 at = end + 1
             elif word.is_word("record"):
                 at = self.record(words, at + 1, own)
