@@ -4,7 +4,7 @@ import bisect
 import re
 
 from common.rust import TYPE, Code
-from common.sources import IMPORT, SOURCE, clauses_behind, matching, module_of, names_in
+from common.sources import IMPORT, clauses_behind, matching, module_of, names_in
 from common.terms import RESERVED, Reading, Unread, first_at, nested, words_of
 
 MARKS = {"pattern", "unfoldable", "abbrev", "pub"}
@@ -461,7 +461,3 @@ def section_names(section):
         if word.kind == "group":
             found |= {it.text for it in word.inner[:first_at(word.inner, ":")]}
     return frozenset(found)
-
-
-def is_specification(path):
-    return SOURCE.match(path)[2] == "specs"
