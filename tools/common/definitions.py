@@ -70,8 +70,7 @@ class Definitions:
         self.modules, self.types, self.unresolved = {}, {}, []
         for path, text in sources.items():
             if path.endswith(".antt"):
-                name = module_of(path)
-                self.modules[name.removesuffix(".Lib") if name.endswith(".specs.Lib") else name] = Module(path, text)
+                self.modules[re.sub(r"\.specs\.Lib$", ".specs", module_of(path))] = Module(path, text)
         for module in self.modules.values():
             self.split(module)
 
