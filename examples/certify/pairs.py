@@ -88,7 +88,8 @@ def by_sim(question, subject, state, inputs, folder):
         if item[0] != "initial" and not (item[0] == "reg" and item[-2].removeprefix("v_q") in state.registers):
             lines.append(" ".join(item))
     for name, (width, number) in shown_names.items():
-        lines += [f"initial v_{name} = {width}'d{number};", f"initial t_{name} = {question.width}'d0;", f"always @(posedge clk) t_{name} <= {question.width}'d0;"]
+        bottom = f"{question.width}'d0"
+        lines += [f"initial v_{name} = {width}'d{number};", f"initial t_{name} = {bottom};", f"always @(posedge clk) t_{name} <= {bottom};"]
     lines += [f"always @(posedge clk) v_of_{name} <= v_q{name};" for name in sites]
     written(folder, "clocked.v", [*lines, "endmodule"])
     written(folder, "clocked.txt", [" ".join(str(inputs[port.name]) for port in module.inputs())])
