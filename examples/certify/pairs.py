@@ -45,10 +45,11 @@ def state_of(question, numbers, copy):
     memories = {name: [starts[name]] * depth for name, (_, depth) in interface.arrays().items()}
     for memory in interface.memories:
         for place in question.copies.cells(memory):
-            cell = place.cell if isinstance(place.cell, int) else numbers[place.cell]
+            # (where nothing is written a solver may leave the chosen cell's number out, and each cell is as it started)
+            cell = place.cell if isinstance(place.cell, int) else numbers.get(place.cell, 0)
             for name, wires in ((f"v_{memory.name}", place.values), (f"t_{memory.name}", place.tags)):
                 if name in memories:
-                    memories[name][cell] = numbers[wires[copy]]
+                    memories[name][cell] = numbers.get(wires[copy], starts[name])
     return State(registers, memories)
 
 
