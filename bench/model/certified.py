@@ -176,10 +176,11 @@ def one_case(program, seed, counts):
         counts.levels += len(levels)
         if not certifying.holds:
             counts.note(seed, "not certified:\n" + "\n".join(lines))
-        damaged_case(draw, paths, levels, seed, counts)
+        damaged_case(draw, paths, seed, counts)
 
 
-def damaged_case(draw, paths, levels, seed, counts):
+def damaged_case(draw, paths, seed, counts):
+    """The same module, damaged, at all levels until it is told apart."""
     with open(paths[2], encoding="ascii") as file:
         text = file.read()
     kinds = list(DAMAGES)
@@ -188,8 +189,9 @@ def damaged_case(draw, paths, levels, seed, counts):
     with open(paths[2], "w", encoding="ascii") as file:
         file.write(damaged)
     lines = []
-    certifying = Certifying(Subject(*paths), seconds=SECONDS, tell=lines.append)
-    certifying.text(levels)
+    subject = Subject(*paths)
+    certifying = Certifying(subject, seconds=SECONDS, tell=lines.append)
+    certifying.text(subject.lattice.levels, until_found=True)
     counts.damaged[kind] += 1
     if certifying.holds:
         return

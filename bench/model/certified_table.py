@@ -46,7 +46,8 @@ ROWS = [
     Row("an input at high is written to a register at low", "handler", "t_a ? 8'd9 : v_a", "t_a ? v_a : 8'd9", "low", {"states"}),
     Row("at high all is seen", "handler", "t_a ? 8'd9 : v_a", "t_a ? v_a : 8'd9", "high", set()),
     Row("whether a site is refused depends on an input at high", "handler", "assign c_1 = t_a;", "assign c_1 = v_a[0:0];", "low", {"refusals"}),
-    Row("a refusal that nobody sees may depend on it", "handler", "assign c_1 = t_a;\nassign l_1 = 1'd0;", "assign c_1 = v_a[0:0];\nassign l_1 = 1'd1;", "low", set()),
+    Row("a refusal that nobody sees may depend on it", "handler", "assign c_1 = t_a;\nassign l_1 = 1'd0;",
+        "assign c_1 = v_a[0:0];\nassign l_1 = 1'd1;", "low", set()),
     Row("the level of a refusal depends on it", "handler", "assign l_1 = 1'd0;", "assign l_1 = v_a[0:0];", "low", {"refusals"}),
     Row("a site that is never refused tells nothing", "handler", "assign c_1 = t_a;", "assign c_1 = 1'd0;", "low", set()),
     Row("a write to a dynamic memory doesn't raise its tag", "memory", f"{EDGE}t_m <= n0;", f"{EDGE}t_m <= t_m;", "low", {"states"}),
@@ -118,8 +119,9 @@ def main():
             if found:
                 wrong += 1
                 print(f"{row.shows}{f', {flow or solver}' if flow or solver else ''}: {found}")
-    print(f"{len(ROWS)} modules and {len(GATES) * len(FLOWS)} netlists worked out by hand, those with memories {f'by {arrays[0]} too' if arrays else 'by sat alone'}: "
-          f"{'each' if not wrong else len(cases) - wrong} answered as it is to be")
+    by = f"by {arrays[0]} too" if arrays else "by sat alone"
+    print(f"{len(ROWS)} modules and {len(GATES) * len(FLOWS)} netlists worked out by hand, those with memories {by}: "
+          f"{'each' if not wrong else f'{len(cases) - wrong} of {len(cases)}'} answered as it is to be")
     return bool(wrong)
 
 

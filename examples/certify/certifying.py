@@ -99,8 +99,8 @@ class Certifying:
 
     # The text, and the gates.
 
-    def text(self, levels):
-        """All questions about the text."""
+    def text(self, levels, until_found=False):
+        """All questions about the text, at each level or until one fails."""
         subject = self.subject
         # (an SMT solver has arrays for memories; `sat` would need a register for each cell, and gets the cells that are looked at)
         copies_of = copies_of_text if self.asked_solver not in (None, "sat") else copies_by_cells
@@ -110,6 +110,8 @@ class Certifying:
             solver = self.solver(question.text(), folder, "question", Setting(registers=(least, least + len(subject.interface.memories))))
             self.first(solver, question)
             for level in levels:
+                if until_found and self.failed:
+                    break
                 self.level(solver, question, level, folder)
 
     def gates(self, levels, flow):

@@ -119,7 +119,8 @@ class Gates:
         kept = [f"({name}_1 == {self.module.widths[name]}'d{start})" for name, start in keeping(self.module).items() if name not in self.module.depths]
         items += [f"assign premises =\n  {conjunction([*same, *kept])};", "assign states = premises;"]
         items.append(f"assign refusals =\n  {conjunction(f'({name}_1 == {name}_2)' for name in wires)};")
-        return module_text([f"input [{port.width - 1}:0] {port.name}_1" for port in inputs] + [f"output {name}" for name in ("premises", "states", "refusals")], items)
+        ports = [f"input [{port.width - 1}:0] {port.name}_1" for port in inputs] + ["output premises", "output states", "output refusals"]
+        return module_text(ports, items)
 
 
 def port_of_cell(name, cell):

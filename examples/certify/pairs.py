@@ -45,10 +45,11 @@ def state_of(question, numbers, copy):
     memories = {name: [starts[name]] * depth for name, (_, depth) in interface.arrays().items()}
     for memory in interface.memories:
         for place in question.copies.cells(memory):
-            cell = place.cell if isinstance(place.cell, int) else numbers[place.cell]
+            # (where nothing is written a solver may leave the chosen cell's number out, and each cell is as it started)
+            cell = place.cell if isinstance(place.cell, int) else numbers.get(place.cell, 0)
             for name, wires in ((f"v_{memory.name}", place.values), (f"t_{memory.name}", place.tags)):
                 if name in memories:
-                    memories[name][cell] = numbers[wires[copy]]
+                    memories[name][cell] = numbers.get(wires[copy], starts[name])
     return State(registers, memories)
 
 
@@ -88,7 +89,8 @@ def by_sim(question, subject, state, inputs, folder):
         if item[0] != "initial" and not (item[0] == "reg" and item[-2].removeprefix("v_q") in state.registers):
             lines.append(" ".join(item))
     for name, (width, number) in shown_names.items():
-        lines += [f"initial v_{name} = {width}'d{number};", f"initial t_{name} = {question.width}'d0;", f"always @(posedge clk) t_{name} <= {question.width}'d0;"]
+        bottom = f"{question.width}'d0"
+        lines += [f"initial v_{name} = {width}'d{number};", f"initial t_{name} = {bottom};", f"always @(posedge clk) t_{name} <= {bottom};"]
     lines += [f"always @(posedge clk) v_of_{name} <= v_q{name};" for name in sites]
     written(folder, "clocked.v", [*lines, "endmodule"])
     written(folder, "clocked.txt", [" ".join(str(inputs[port.name]) for port in module.inputs())])

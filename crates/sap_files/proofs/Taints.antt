@@ -1,5 +1,5 @@
 -- What comes of a module to which tags are added.
-use Rattle.sap_lemmas.proofs.Common.{◌≡◌, ◌⊎◌, List, ℕ, sym, subst, inl, inr, refl, Option, Some}
+use Rattle.sap_lemmas.proofs.Common.{◌≡◌, ◌≢◌, ◌⊎◌, List, ℕ, sym, subst, inl, inr, refl, Option, Some}
 use Rattle.sap_lattice.specs.Prelude.{Levels, Order}
 use Rattle.sap_latfile.specs.OneLattice.{AreSame}
 use Rattle.sap_net.specs.Net.{Net}
@@ -15,11 +15,11 @@ use Rattle.sap_files.proofs.Ended.{chosen, quiet_self, starved, stopped_by}
 abbrev pub Untagged : Net → Ending → Type 0
 Untagged n e = (e ≡ no_memory) ⊎ ((x : List ℕ) × IsClash n x × (e ≡ refused (taint_refused (Clash x))))
 
-untagged_by : (n : Net) (fault : TaintFault) → IsTaintFault n fault → Untagged n (ending (taint_failure fault))
-untagged_by n (Clash x) is = inr (x, is, refl)
+untagged_by : (n : Net) (fault : TaintFault) → (fault ≢ Memory → IsTaintFault n fault) → Untagged n (ending (taint_failure fault))
+untagged_by n (Clash x) is = let other : Clash x ≢ Memory = λ e. cc in inr (x, is other, refl)
 untagged_by n Memory is = inl refl
 
-pub untagged : (n : Net) (fault : TaintFault) (failure : Failure) → failure ≡ taint_failure fault → IsTaintFault n fault → Untagged n (ending failure)
+pub untagged : (n : Net) (fault : TaintFault) (failure : Failure) → failure ≡ taint_failure fault → (fault ≢ Memory → IsTaintFault n fault) → Untagged n (ending failure)
 untagged n fault failure same is = subst (λ (f : Failure). Untagged n (ending f)) (sym same) (untagged_by n fault is)
 
 -- so the command ends there
