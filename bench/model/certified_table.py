@@ -1,6 +1,7 @@
 """Modules that are damaged by hand, each so that it is known which questions find it at a level. Usage: python3 -m model.certified_table PROGRAM TOP"""
 
 import os
+import re
 import shutil
 import sys
 import tempfile
@@ -50,16 +51,16 @@ ROWS = [
         "assign c_1 = v_a[0:0];\nassign l_1 = 1'd1;", "low", set()),
     Row("the level of a refusal depends on it", "handler", "assign l_1 = 1'd0;", "assign l_1 = v_a[0:0];", "low", {"refusals"}),
     Row("a site that is never refused tells nothing", "handler", "assign c_1 = t_a;", "assign c_1 = 1'd0;", "low", set()),
-    Row("a write to a dynamic memory doesn't raise its tag", "memory", f"{EDGE}t_m <= n0;", f"{EDGE}t_m <= t_m;", "low", {"states"}),
-    Row("a refused write to an enforced memory is done", "memory", f"{EDGE}if (n5) v_k[n7]", f"{EDGE}if (1'd1) v_k[v_a]", "low", {"states"}),
+    Row("a write to a dynamic memory doesn't raise its tag", "memory", f"{EDGE}t_m <= n#;", f"{EDGE}t_m <= t_m;", "low", {"states"}),
+    Row("a refused write to an enforced memory is done", "memory", f"{EDGE}if (n#) v_k[v_a]", f"{EDGE}if (1'd1) v_k[v_a]", "low", {"states"}),
     Row("a memory that is only written at a fixed place, undamaged", FIXED, "endmodule", "endmodule", "low", set()),
-    Row("the same, and a write doesn't raise its tag", FIXED, f"{EDGE}t_m <= n0;", f"{EDGE}t_m <= t_m;", "low", {"states"}),
-    Row("which state is current depends on a secret, and its tag is low", "modes", f"{EDGE}t_Off <= n17;", f"{EDGE}t_Off <= 1'd0;", "low", {"states"}),
+    Row("the same, and a write doesn't raise its tag", FIXED, f"{EDGE}t_m <= n#;", f"{EDGE}t_m <= t_m;", "low", {"states"}),
+    Row("which state is current depends on a secret, and its tag is low", "modes", f"{EDGE}t_Off <= n#;", f"{EDGE}t_Off <= 1'd0;", "low", {"states"}),
     Row("a tag that is retagged in sight depends on a secret", RETAGGED, f"{EDGE}t_z <= 2'd2;",
         f"wire [1:0] n900;\nassign n900 = v_s ? 2'd2 : 2'd1;\n{EDGE}t_z <= n900;", "low", {"states"}),
     Row("a tag that is no code", THREE, f"{EDGE}t_x <= 2'd0;", f"{EDGE}t_x <= 2'd2;", "level0", {"kept"}),
     Row("a tag below its authority", THREE, f"{EDGE}t_y <= 2'd3;", f"{EDGE}t_y <= 2'd1;", "level0", {"kept"}),
-    Row("a current child that is none", THREE, f"{EDGE}s_0 <= n8;", f"{EDGE}s_0 <= 2'd3;", "level0", {"kept"}),
+    Row("a current child that is none", THREE, f"{EDGE}s_0 <= n#;", f"{EDGE}s_0 <= 2'd3;", "level0", {"kept"}),
     Row("a register that doesn't start as the design says", THREE, "initial v_x = 8'd0;", "initial v_x = 8'd4;", "level0", {"first"}),
     Row("a tag that always has a number that is no code", THREE, f"initial t_y = 2'd3;", "initial t_y = 2'd2;", "level0", {"first"}),
     Row("the same, and it keeps that number", THREE, f"{EDGE}t_y <= 2'd3;", f"{EDGE}t_y <= t_y;", "level0", set()),
@@ -87,9 +88,11 @@ def wrong_with(row, program, top, folder, flow, solver):
         return "not compiled"
     with open(files[2], encoding="ascii") as file:
         text = file.read()
-    if text.count(row.old) != 1:
+    # A helping wire has any number: `n#` in the row.
+    found = re.findall(re.escape(row.old).replace(re.escape("n#"), r"n\d+"), text)
+    if len(found) != 1:
         return f"{row.old!r} isn't in the module once"
-    damaged = put(folder, "damaged.v", text.replace(row.old, row.new))
+    damaged = put(folder, "damaged.v", text.replace(found[0], row.new))
     lines = []
     certifying = Certifying(Subject(*files[:2], files[2] if flow else damaged), solver, tell=lines.append)
     levels = [certifying.subject.lattice.number[row.level]]
