@@ -1,5 +1,5 @@
 //! Calls that no command makes, by example: what a runner's last cycle refuses, the line of a check site, machines on the
-//! worked examples of the rules, and two machines side by side.
+//! worked examples of the rules, two machines side by side, and the time-sliced machine.
 #![tactic(auto)]
 
 #[cfg(test)]
@@ -8,5 +8,7 @@ mod lattice;
 mod machines;
 #[cfg(test)]
 mod refusals;
+#[cfg(test)]
+mod slices;
 #[cfg(test)]
 mod worked;

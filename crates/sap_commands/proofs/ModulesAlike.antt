@@ -45,9 +45,6 @@ module _ (l m : Levels) (same : AreSame l m) (d : DesignTree) (n : Net) where
         looks_alike =
             subst (λ (y : Named). OnStreams y (order_of m) n (CyclesLookAlike y sites)) (named_in l m same d)
             (subst (λ (o : Order). OnStreams x o n (CyclesLookAlike x sites)) same.order is.looks_alike);
-        shared = is.shared;
-        folded = is.folded;
-        copies = is.copies;
-        read = is.read;
+        tidy = is.tidy;
         small = subst (λ (ns : List (List ℕ)). items n ≤ 8 * (1 + design_nodes d) * (1 + entity_count d + length ns)) same.names is.small;
       }

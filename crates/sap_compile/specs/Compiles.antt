@@ -5,9 +5,8 @@ use Rattle.sap_tree.specs.Syntax.{DesignTree}
 use Rattle.sap_shape.specs.WellFormed.{WellFormed}
 use Rattle.sap_net.specs.Net.{Net}
 use Rattle.sap_size.specs.Items.{IsSmall}
-use Rattle.sap_trim.specs.Reads.{ReadsWires}
-use Rattle.sap_share.specs.Copying.{CopiesPorts}
-use Rattle.sap_trim.specs.Trimmed.{FoldsWires, SharesWires}
+use Rattle.sap_trim.specs.Names.{port_names}
+use Rattle.sap_compile.specs.Tidy.{IsTidy}
 use Rattle.sap_vtext.specs.Modules.{IsModule}
 use Rattle.sap_interface.specs.Designs.{StandsForDesign, StartsAsDesign}
 use Rattle.sap_compile.specs.Agree.{RunsAgree, RunsLookAlike}
@@ -24,8 +23,5 @@ pub record IsModuleFor (ls : Levels) (d : DesignTree) (net : Net) (text : List â
   pub has_one_run : HasOneRunOnStreams ls d net
   pub agrees : RunsAgree ls d net
   pub looks_alike : RunsLookAlike ls d net
-  pub shared : SharesWires net
-  pub folded : FoldsWires net
-  pub read : ReadsWires net
-  pub copies : CopiesPorts net
+  pub tidy : IsTidy (port_names net) net
   pub small : IsSmall ls d net

@@ -6,6 +6,7 @@ pub mod Faults
 pub mod Parts
 pub mod Runs
 pub mod Stages
+pub mod Tidy
 pub use Rattle.sap_check.specs.Checked
 pub use Rattle.sap_hang.specs.Hang
 pub use Rattle.sap_interface.specs.Designs

@@ -1,5 +1,5 @@
 -- Design files: a text is at most one design, and what reading and checking one come to.
-use Rattle.std.proofs.Common.{◌≡◌, ◌≢◌, ℕ, List, [], refl, sym, ◌∙◌, ap, subst, inl, inr, ◌⊎◌, Some}
+use Rattle.std.proofs.Common.{◌≡◌, ◌≢◌, ℕ, List, [], refl, sym, ◌∙◌, ap, subst, inl, inr, ◌⊎◌, Some, Err}
 use Rattle.sap_lattice.specs.Prelude.{Levels, order_of, Order}
 use Rattle.sap_latfile.specs.OneLattice.{AreSame}
 use Rattle.sap_tree.specs.Syntax.{DesignTree}
@@ -17,8 +17,12 @@ use Rattle.sap_shape.specs.ShapeFaults.{IsFirstShapeFault}
 use Rattle.sap_shape.specs.WellFormed.{WellFormed, IsFirstFault}
 use Rattle.sap_files.specs.declared.fault.DesignFault.{DesignFault}
 use Rattle.sap_files.specs.declared.fault.DesignFault.TheVariants as design
-use Rattle.sap_files.specs.Prelude.{IsDesignFault, Ending, design_refused, IsLawful, IsWellFormedText, design_file, design_text_file, Refuses, check_failure, ending, read_failure}
+use Rattle.sap_files.specs.Prelude.{IsDesignFault, Ending, design_refused, IsLawful, IsWellFormedText, design_file, design_text_file, design_ending, IsChecked, Refuses, ending, read_failure}
+use Rattle.sap_files.specs.Designs.{unchecked}
+use Rattle.sap_files.specs.Designs.{unread as not_read}
 use Rattle.sap_files.specs.declared.failure.Failure.{Failure}
+use Rattle.sap_files.specs.declared.failure.DesignFailure.{DesignFailure}
+use Rattle.sap_files.specs.declared.failure.DesignFailure.TheVariants as failure
 use Rattle.sap_files.proofs.DesignFaults.{no_fault, one_fault}
 
 -- the kinds are lawful
@@ -82,19 +86,28 @@ text_unread source fault failure same is = subst (λ (f : Failure). Refuses desi
 
 -- checking one over a lattice
 
-pub unread_over : (ls : Levels) (source : List ℕ) (e : Ending) → Refuses design_text_file source e → Refuses (design_file ls) source e
-unread_over ls source e (inl is) = inl is
-unread_over ls source e (inr (why, is, (fault, was, first))) = inr (why, is, (design.Read fault, was, first))
+pub design_unread : (ls : Levels) (source : List ℕ) (fault : ReadFault) → (fault ≢ read.Memory → IsReadFault source fault)
+    → IsChecked ls source (Err (not_read fault))
+design_unread ls source read.Memory is = tt
+design_unread ls source (read.E1 place) is = is (λ e. cc)
+design_unread ls source (read.E2 place) is = is (λ e. cc)
+design_unread ls source (read.E18 place limit) is = is (λ e. cc)
 
-unchecked : (ls : Levels) (source : List ℕ) (d : DesignTree) (fault : CheckFault) → IsText source d
+not_checked : (ls : Levels) (source : List ℕ) (d : DesignTree) (fault : CheckFault) → IsText source d
     → ((code : Code) (place : Place) → fault ≡ check.Rule code place → IsFirstFault ls d (record { code = code; place = place }))
-    → Refuses (design_file ls) source (ending (check_failure fault))
-unchecked ls source d check.Memory is first = inl refl
-unchecked ls source d (check.Rule code place) is first =
-    inr (design_refused (design.Check (check.Rule code place)), refl, (design.Check (check.Rule code place), refl, (d, is, first code place refl)))
+    → IsChecked ls source (Err (unchecked fault))
+not_checked ls source d check.Memory is first = tt
+not_checked ls source d (check.Rule code place) is first = (d, is, first code place refl)
 
-pub design_unchecked : (ls : Levels) (source : List ℕ) (d : DesignTree) (fault : CheckFault) (failure : Failure) → failure ≡ check_failure fault → IsText source d
+pub design_unchecked : (ls : Levels) (source : List ℕ) (d : DesignTree) (fault : CheckFault) (failure : DesignFailure) → failure ≡ unchecked fault → IsText source d
     → ((code : Code) (place : Place) → fault ≡ check.Rule code place → IsFirstFault ls d (record { code = code; place = place }))
-    → Refuses (design_file ls) source (ending failure)
+    → IsChecked ls source (Err failure)
 design_unchecked ls source d fault failure same is first =
-    subst (λ (f : Failure). Refuses (design_file ls) source (ending f)) (sym same) (unchecked ls source d fault is first)
+    subst (λ (f : DesignFailure). IsChecked ls source (Err f)) (sym same) (not_checked ls source d fault is first)
+
+-- so the bytes are refused, or there was no memory
+pub design_refuses : (ls : Levels) (name source : List ℕ) (failure : DesignFailure) → IsChecked ls source (Err failure)
+    → Refuses (design_file ls) source (design_ending name failure)
+design_refuses ls name source (failure.Refused fault) is = inr (design_refused fault, refl, (fault, refl, is))
+design_refuses ls name source failure.Failed is = absurd is
+design_refuses ls name source failure.Memory is = inl refl

@@ -20,9 +20,9 @@ one_module text one other a b =
 pub module_lawful : IsLawful module_file
 module_lawful = record {
   one_value = one_module;
-  one_reason = λ text why other (fault, is, ne, first) (fault', was, ne', first').
+  one_reason = λ text why other (fault, is, first) (fault', was, first').
       is ∙ ap module_refused (one_fault reading.one_text reading.one_fault reading.not_both text fault fault' first first') ∙ sym was;
-  not_both = λ text net why stands (fault, is, ne, first). not_both reading.one_text reading.one_fault reading.not_both text net fault stands first;
+  not_both = λ text net why stands (fault, is, first). not_both reading.one_text reading.one_fault reading.not_both text net fault stands first;
 }
 
 -- reading one
@@ -31,7 +31,7 @@ unread : (text : List ℕ) (fault : ModFault) → (fault ≢ verilog.Memory → 
 unread text verilog.Memory is = inl refl
 unread text (verilog.Rule code place) is =
     let ne : verilog.Rule code place ≢ verilog.Memory = λ e. cc in
-    inr (module_refused (verilog.Rule code place), refl, (verilog.Rule code place, refl, ne, is ne))
+    inr (module_refused (verilog.Rule code place), refl, (verilog.Rule code place, refl, is ne))
 
 pub module_unread : (text : List ℕ) (fault : ModFault) (failure : Failure) → failure ≡ module_failure fault
     → (fault ≢ verilog.Memory → IsModuleFault text fault) → Refuses module_file text (ending failure)

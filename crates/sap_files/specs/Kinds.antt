@@ -1,5 +1,5 @@
 -- The kinds of files that commands read.
-use Rattle.std.specs.Prelude.{◌≡◌, ◌≢◌, ℕ, Bool, List, length, map, Option, Some, None, Ok, Err}
+use Rattle.std.specs.Prelude.{◌≡◌, ℕ, Bool, List, length, map, Option, Some, None, Ok, Err}
 use Rattle.sap_desk.specs.Desk.{Told}
 use Rattle.sap_lattice.specs.Levels.{Levels, numbers, order_of}
 use Rattle.sap_latfile.specs.LatticeFile.{IsLatticeOfFile, FirstFault}
@@ -18,7 +18,6 @@ use Rattle.sap_net.specs.Net.{Net}
 use Rattle.sap_vtext.specs.Modules.{IsModule}
 use Rattle.sap_vread.specs.ModuleFault.{IsModuleFault}
 use Rattle.sap_vread.specs.declared.fault.ModFault.{ModFault}
-use Rattle.sap_vread.specs.declared.fault.ModFault.TheVariants as module_fault
 use Rattle.sap_wave.specs.Dumps.{IsReading}
 use Rattle.sap_wave.specs.Read.{IsWaveFault}
 use Rattle.sap_wave.specs.Waves.{Wave}
@@ -102,7 +101,7 @@ module_file = record {
   most = None;
   Value = Net;
   Stands = IsModule;
-  Refused = λ text why. (fault : ModFault) × (why ≡ module_refused fault) × (fault ≢ module_fault.Memory) × IsModuleFault text fault;
+  Refused = λ text why. (fault : ModFault) × (why ≡ module_refused fault) × IsModuleFault text fault;
 }
 
 -- Stimulus files whose every line is taken, the first or the second of the words, by what bytes are read as.

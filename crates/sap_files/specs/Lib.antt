@@ -5,6 +5,7 @@ pub mod Asks
 pub mod After
 pub mod Outside
 pub mod Steps
+pub mod Designs
 pub mod Compared
 pub mod StimulusTexts
 pub mod Tainting

@@ -9,8 +9,6 @@ use Rattle.sap_latfile.specs.declared.fault.LatFileFault.TheVariants as lattice_
 use Rattle.sap_parse.specs.Limits.{most_bytes}
 use Rattle.sap_lex.specs.declared.fault.ReadFault.{ReadFault}
 use Rattle.sap_lex.specs.declared.fault.ReadFault.TheVariants as read_fault
-use Rattle.sap_names.specs.declared.fault.CheckFault.{CheckFault}
-use Rattle.sap_names.specs.declared.fault.CheckFault.TheVariants as check_fault
 use Rattle.sap_check.specs.Checked.{levels_in, tree_in}
 use Rattle.sap_check.specs.declared.checked.Checked.{Checked}
 use Rattle.sap_vread.specs.declared.fault.ModFault.{ModFault}
@@ -62,10 +60,6 @@ lattice_failure fault = Refused (Lattice fault)
 abbrev pub read_failure : ReadFault → Failure
 read_failure read_fault.Memory = Memory
 read_failure fault = Refused (Design (design_fault.Read fault))
-
-abbrev pub check_failure : CheckFault → Failure
-check_failure check_fault.Memory = Memory
-check_failure fault = Refused (Design (design_fault.Check fault))
 
 abbrev pub module_failure : ModFault → Failure
 module_failure module_fault.Memory = Memory
@@ -209,11 +203,6 @@ Tags ls net (Err e) = (ending e ≡ no_memory) ⊎ ((x : List ℕ) × IsClash ne
 abbrev pub Taints : Levels → Net → Result (List ℕ) Failure → Type 0
 Taints ls net (Ok text) = HasRoomForTags net × IsTaintedText ls net text
 Taints ls net (Err e) = (ending e ≡ no_memory) ⊎ ((x : List ℕ) × IsClash net x × (ending e ≡ refused (taint_refused (taint_fault.Clash x))))
-
--- what a design file gives over the levels of a lattice
-abbrev pub IsChecked : Levels → (source : List ℕ) → Result Checked Failure → Type 0
-IsChecked ls source (Ok c) = IsWellFormedText ls source (tree_in c) × (levels_in c ≡ ls)
-IsChecked ls source (Err e) = Refuses (design_file ls) source (ending e)
 
 -- A file read as one of a kind
 

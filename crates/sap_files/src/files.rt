@@ -6,13 +6,14 @@ ghost use Rattle.sap_stim.specs.Line.{IsSized};
 ghost use Rattle.sap_stim.specs.Stimulus.{stimulus_of};
 ghost use Rattle.sap_tree.specs.Designs.{design_of as tree_of};
 ghost use Rattle.sap_files.specs.Kinds.{assembly_file, design_text_file, module_file, stream_by, stream_file, wave_file};
+ghost use Rattle.sap_files.specs.Designs.{GetsDesign};
 ghost use Rattle.sap_files.specs.Steps.{Gets, GetsChecked, GetsLattice, seen};
 
 use crate::comparing::stream_of;
-use crate::failure::Failure;
+use crate::failure::{DesignFailure, Failure};
 use crate::inputs::{
-    checked_from, lattice_from, lines_from, module_from, read, read_design, text_from, wave_from,
-    words_from,
+    checked_from, design_bytes, design_failure, lattice_from, lines_from, module_from, read,
+    read_design, text_from, wave_from, words_from,
 };
 use sap_check::Checked;
 use sap_cpu::words::Words;
@@ -60,6 +61,19 @@ pub fn text_of_file<'a, D: Desk>(
 }
 
 /// Reads a design file, and checks its design over a lattice.
+pub fn design_of_file<D: Desk>(
+    alloc: Global,
+    desk: &mut D,
+    lattice: &Lattice,
+    name: &str,
+) -> Result<Checked, DesignFailure>
+    ensures { GetsDesign lattice.now name.now result (seen D.told D.faults D.lost D.sure desk.old) (seen D.told D.faults D.lost D.sure desk.new) }
+{
+    let source = design_bytes(alloc, desk, name)?;
+    checked_from(alloc, lattice, &source)
+}
+
+/// Reads a design file for a command, and checks its design over a lattice.
 pub fn checked_of_file<'a, D: Desk>(
     alloc: Global,
     desk: &mut D,
@@ -68,8 +82,10 @@ pub fn checked_of_file<'a, D: Desk>(
 ) -> Result<Checked, Failure<'a>>
     ensures { GetsChecked lattice.now name.now result (seen D.told D.faults D.lost D.sure desk.old) (seen D.told D.faults D.lost D.sure desk.new) }
 {
-    let source = read_design(alloc, desk, name)?;
-    checked_from(alloc, lattice, &source)
+    match design_of_file(alloc, desk, lattice, name) {
+        Ok(checked) => Ok(checked),
+        Err(failure) => Err(design_failure(name, failure)),
+    }
 }
 
 /// Reads a module file.

@@ -5,9 +5,10 @@ ghost use Rattle.sap_stim.specs.Line.{IsSized};
 ghost use Rattle.sap_stim.specs.Stimulus.{stimulus_of};
 ghost use Rattle.sap_tree.specs.Designs.{design_of as tree_of};
 ghost use Rattle.sap_files.specs.Kinds.{lattice_file, assembly_file, design_text_file, module_file, stream_by, wave_file};
-ghost use Rattle.sap_files.specs.Steps.{Gives, IsChecked, Read, ReadDesign, check_failure, lattice_failure, module_failure, read_failure, seen, wave_failure, whole};
+ghost use Rattle.sap_files.specs.Designs.{IsChecked, ReadsDesign, design_ending};
+ghost use Rattle.sap_files.specs.Steps.{Gives, Read, ReadDesign, ending, lattice_failure, module_failure, read_failure, seen, wave_failure, whole};
 
-use crate::failure::Failure;
+use crate::failure::{DesignFailure, Failure};
 use crate::fault::DesignFault;
 use crate::refusal::Refusal;
 use sap_check::Checked;
@@ -18,7 +19,6 @@ use sap_desk::{Bytes, Desk, DeskError, read_file, read_front};
 use sap_latfile::{LatFileFault, read_lattice};
 use sap_lattice::Lattice;
 use sap_lex::fault::ReadFault;
-use sap_names::fault::CheckFault;
 use sap_net::netlist::Netlist;
 use sap_parse::parse;
 use sap_stim::{Fields, parse_stream};
@@ -45,6 +45,32 @@ pub fn read<'a, D: Desk>(alloc: Global, desk: &mut D, name: &'a str) -> Result<B
 const MOST_DESIGN_BYTES: usize = 1_048_576;
 
 /// The bytes of a design file; of one that is too long, no more than show it.
+pub fn design_bytes<D: Desk>(
+    alloc: Global,
+    desk: &mut D,
+    name: &str,
+) -> Result<Bytes, DesignFailure>
+    ensures { ReadsDesign name.now result (seen D.told D.faults D.lost D.sure desk.old) (seen D.told D.faults D.lost D.sure desk.new) }
+{
+    match read_front(alloc, desk, name, MOST_DESIGN_BYTES) {
+        Ok(bytes) => Ok(bytes),
+        Err(DeskError::Failed) => Err(DesignFailure::Failed),
+        Err(DeskError::Memory) => Err(DesignFailure::Memory),
+    }
+}
+
+/// How a command fails for which the design file of this name gives no design.
+pub(crate) fn design_failure(name: &str, failure: DesignFailure) -> Failure<'_>
+    ensures { ending result ≡ design_ending name.now failure }
+{
+    match failure {
+        DesignFailure::Refused(fault) => Failure::Refused(Refusal::Design(fault)),
+        DesignFailure::Failed => Failure::Desk(name),
+        DesignFailure::Memory => Failure::Memory,
+    }
+}
+
+/// The same bytes, for a command.
 pub fn read_design<'a, D: Desk>(
     alloc: Global,
     desk: &mut D,
@@ -52,10 +78,9 @@ pub fn read_design<'a, D: Desk>(
 ) -> Result<Bytes, Failure<'a>>
     ensures { ReadDesign name.now result (seen D.told D.faults D.lost D.sure desk.old) (seen D.told D.faults D.lost D.sure desk.new) }
 {
-    match read_front(alloc, desk, name, MOST_DESIGN_BYTES) {
+    match design_bytes(alloc, desk, name) {
         Ok(bytes) => Ok(bytes),
-        Err(DeskError::Failed) => Err(Failure::Desk(name)),
-        Err(DeskError::Memory) => Err(Failure::Memory),
+        Err(failure) => Err(design_failure(name, failure)),
     }
 }
 
@@ -97,27 +122,18 @@ pub fn text_from<'a>(alloc: Global, source: &Bytes) -> Result<Design, Failure<'a
     }
 }
 
-fn check_failure<'a>(fault: CheckFault) -> Failure<'a>
-    ensures { result ≡ check_failure fault }
-{
-    match fault {
-        CheckFault::Memory => Failure::Memory,
-        fault => Failure::Refused(Refusal::Design(DesignFault::Check(fault))),
-    }
-}
-
 /// The design of a design file's bytes, checked over a lattice.
-pub fn checked_from<'a>(
+pub fn checked_from(
     alloc: Global,
     lattice: &Lattice,
     source: &Bytes,
-) -> Result<Checked, Failure<'a>>
+) -> Result<Checked, DesignFailure>
     ensures { IsChecked lattice.now source.now result }
 {
-    let design = text_from(alloc, source)?;
+    let design = parse(alloc, source.as_slice())?;
     match check(alloc, design, lattice) {
         Ok(checked) => Ok(checked),
-        Err(refused) => Err(check_failure(refused.fault)),
+        Err(refused) => Err(DesignFailure::from(refused.fault)),
     }
 }
 

@@ -21,8 +21,9 @@ mod traces;
 mod waves;
 
 pub use comparing::{level_of, verdict};
+pub use failure::DesignFailure;
 pub use fault::DesignFault;
-pub use files::{LatticeFile, lattice_of_file, stream_of_file};
+pub use files::{LatticeFile, design_of_file, lattice_of_file, stream_of_file};
 pub use inputs::{read, read_design};
 pub use machines::{asm, cpu, machine};
 pub use output::{put, write};

@@ -4,7 +4,8 @@ use Rattle.sap_lattice.specs.Order.{Laws}
 use Rattle.sap_lattice.specs.Levels.{Levels, order_of}
 use Rattle.sap_lattice.specs.Codes.{Codes}
 use Rattle.sap_net.specs.Net.{Net}
-use Rattle.sap_trim.specs.Trimmed.{FoldsWires}
+use Rattle.sap_trim.specs.Names.{port_names}
+use Rattle.sap_compile.specs.Tidy.{IsTidy}
 use Rattle.sap_system.specs.Rules.{KeepsParts, part_names}
 use Rattle.sap_system.specs.declared.file.Part.{Part}
 use Rattle.sap_system.specs.Wires.{Surroundings}
@@ -29,11 +30,11 @@ NamedPartsFit = (u : Surroundings) (s : NamedSystem) → PartsNamed u → names_
 abbrev pub FileNamesFit : Type 0
 FileNamesFit = (parts : List Part) (s : NamedSystem) → KeepsParts parts → names_of s ≡ part_names parts → NamesFit s
 
--- Where the netlist of a system is made small and its right sides are folded, what comes of it is the module of the system, without the ports of what
--- feeds inputs.
+-- Where the netlist of a system is made small, and no wire of what comes of it is needless, that is the module of the system, without the ports of what feeds
+-- inputs.
 abbrev pub SmallNetsAreModules : Type 0
 SmallNetsAreModules =
     (ls : Levels) (designs : List NamedDesign) (wires : List Wire) → Laws (order_of ls) → Codes (order_of ls) → WellLinked ls (trees designs) wires
     → let s = named_system ls designs wires in
     NamesFit s → (nets : ℕ → Net) (small : Net) → ((i : ℕ) (d : NamedDesign) → slice_get designs i ≡ Some d → IsNetOfDesign ls d.design (nets i))
-    → IsSmall (linked_net s nets) small → FoldsWires small → IsModuleOfSystem ls designs wires (without_fed s small)
+    → IsSmall (linked_net s nets) small → IsTidy (port_names small) small → IsModuleOfSystem ls designs wires (without_fed s small)

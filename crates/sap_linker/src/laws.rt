@@ -8,11 +8,12 @@ pub fn file_names_fit()
     ensures listed { FileNamesFit }
 {}
 
-/// What comes of the netlist of a system, made small and folded, is the module of the system.
+/// What comes of the netlist of a system, made small without needless wires, is the module of the system.
 pub fn small_nets_are_modules()
     ensures { SmallNetsAreModules }
 {
     sap_linked_small::laws::small_nets_stand();
+    sap_linked_agree::laws::systems_agree();
     sap_linked_agree::laws::modules_agree();
     sap_linked_agree::laws::modules_have_one_run()
 }

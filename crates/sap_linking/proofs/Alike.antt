@@ -7,6 +7,7 @@ use Rattle.sap_tree.specs.Syntax.{DesignTree}
 use Rattle.sap_names.specs.Entities.{entities_of}
 use Rattle.sap_shape.specs.WellFormed.{WellFormed}
 use Rattle.sap_net.specs.Net.{Net}
+use Rattle.sap_compile.specs.Tidy.{IsTidy}
 use Rattle.sap_size.specs.Items.{items}
 use Rattle.sap_size.specs.Trees.{design_nodes, entity_count}
 use Rattle.sap_meaning.specs.Program.{Program}
@@ -16,14 +17,15 @@ use Rattle.sap_system.specs.Wires.{FirstLinkFault, KeepsWires, Surroundings}
 use Rattle.sap_system.specs.declared.file.Part.{Part}
 use Rattle.sap_system.specs.declared.file.WireText.{WireText}
 use Rattle.sap_link.specs.Systems.{Wire, WiresFit}
+use Rattle.sap_link.specs.Agree.{RunsOfStreamsAgree}
 use Rattle.sap_link.specs.Designs.{WellLinked, linked}
-use Rattle.sap_linked.specs.Prelude.{NamedDesign, named_system, part_of, trees, NamedSystem, Part as SystemPart}
+use Rattle.sap_linked.specs.Prelude.{NamedDesign, named_system, part_of, shown_names, system_of, trees, NamedSystem, Part as SystemPart}
 use Rattle.sap_linked_small.specs.Laws.{IsNetOfSystem}
 use Rattle.sap_linked_agree.specs.Agree.{SystemRunsAgree, SystemRunsLookAlike, SystemHasOneRun}
 use Rattle.sap_wiring.specs.Wiring.{AreWiresOf}
 use Rattle.sap_linker.specs.Given.{surroundings}
 use Rattle.sap_linker.specs.Linking.{IsLinked}
-use Rattle.sap_linker.specs.Modules.{FoldsInnerWires, IsModuleOfSystem}
+use Rattle.sap_linker.specs.Modules.{IsModuleOfSystem}
 use Rattle.sap_linker.specs.Sizes.{IsSmallSystem}
 use Rattle.sap_files.specs.Prelude.{Ending, EndsReading, Moment, Refuses}
 use Rattle.sap_files.specs.declared.failure.Failure.{Failure}
@@ -32,7 +34,7 @@ use Rattle.sap_files.proofs.Designs.{fault_in, text_in, well_formed_in}
 use Rattle.sap_files.proofs.Programs.{program_in}
 use Rattle.sap_linking.specs.Kinds.{part_file}
 use Rattle.sap_linking.specs.Parts.{EndsAtPart, HasPart, Links, ReadsParts, stop_of}
-use Rattle.sap_linking.specs.declared.parts.Stopped.{Stopped}
+use Rattle.sap_files.specs.declared.failure.DesignFailure.{DesignFailure}
 
 module _ (l m : Levels) (same : AreSame l m) where
   -- files of parts
@@ -55,7 +57,7 @@ module _ (l m : Levels) (same : AreSame l m) where
   reading_in name part e a b (inl stops) = inl stops
   reading_in name part e a b (inr (bytes, reads, refuted)) = inr (bytes, reads, refuses_in part bytes e refuted)
 
-  pub ends_in : {ps : List Part} {place : ℕ} {why : Stopped} {a b : Moment} → EndsAtPart l ps place why a b → EndsAtPart m ps place why a b
+  pub ends_in : {ps : List Part} {place : ℕ} {why : DesignFailure} {a b : Moment} → EndsAtPart l ps place why a b → EndsAtPart m ps place why a b
   ends_in {ps = ps} {place = place} {why = why} {a = a} {b = b} at = record {
     part = at.part;
     is_part = at.is_part;
@@ -103,11 +105,12 @@ module _ (l m : Levels) (same : AreSame l m) where
       let alike : named_system l ds wires ≡ named_system m ds wires = system_same ds wires in
       record {
         linked = well_linked_in (trees ds) wires is.linked;
+        composites = subst (λ (s : NamedSystem). RunsOfStreamsAgree (system_of s)) alike is.composites;
         stands = subst (λ (s : NamedSystem). IsNetOfSystem s n) alike is.stands;
         one_run = subst (λ (s : NamedSystem). SystemHasOneRun s n) alike is.one_run;
         agree = subst (λ (s : NamedSystem). SystemRunsAgree s n) alike is.agree;
         look_alike = subst (λ (s : NamedSystem). SystemRunsLookAlike s n) alike is.look_alike;
-        folded = subst (λ (s : NamedSystem). FoldsInnerWires s n) alike is.folded;
+        tidy = subst (λ (s : NamedSystem). IsTidy (shown_names s) n) alike is.tidy;
       }
 
   linked_in : (ds : List NamedDesign) (texts : List WireText) (n : Net) → IsLinked l ds texts n → IsLinked m ds texts n

@@ -8,7 +8,7 @@ use Rattle.sap_files.proofs.Ended.{past, quiet_self, reading_ended}
 use Rattle.sap_linking.specs.Asked.{asks_parts}
 use Rattle.sap_linking.specs.Kinds.{part_file}
 use Rattle.sap_linking.specs.Parts.{EndsAtPart, HasPart, ReadsParts, stop_of}
-use Rattle.sap_linking.specs.declared.parts.Stopped.{Stopped}
+use Rattle.sap_files.specs.declared.failure.DesignFailure.{DesignFailure}
 use Rattle.sap_linking.proofs.Later.{ends_later}
 
 abbrev called : List ℕ → NamedDesign → NamedDesign
@@ -47,7 +47,7 @@ pub parts_read : {ls : Levels} {e : Ending} {a b c : Moment} (rest : List NamedD
 parts_read {ls = ls} {e = e} {a = a} {c = c} rest parts designs reads ended = past_parts ls e a c parts designs rest reads.have (ends_later reads.quiet ended)
 
 -- or the command ends at one of them
-pub part_stopped : {ls : Levels} {a b : Moment} (rest : List NamedDesign → Asks) (parts : List Part) (place : ℕ) (why : Stopped) (at : EndsAtPart ls parts place why a b)
+pub part_stopped : {ls : Levels} {a b : Moment} (rest : List NamedDesign → Asks) (parts : List Part) (place : ℕ) (why : DesignFailure) (at : EndsAtPart ls parts place why a b)
     → Ends (asks_parts ls parts rest) (stop_of at.part why) a b
 part_stopped {ls = ls} {a = a} {b = b} rest parts place why at =
     at_part ls (stop_of at.part why) a b parts place at.part at.designs rest at.is_part at.have at.ends

@@ -9,8 +9,8 @@ use Rattle.sap_files.proofs.Ended.{quiet_then}
 use Rattle.sap_linking.specs.Kinds.{part_file}
 use Rattle.sap_linking.specs.Parts.{EndsAtPart, GetsPart, HasNet, HasPart, ReadsPart, ReadsParts, loaded_design, loaded_designs}
 use Rattle.sap_linking.specs.declared.parts.LoadedPart.{LoadedPart}
-use Rattle.sap_linking.specs.declared.parts.Stopped.{Stopped}
-use Rattle.sap_linking.specs.declared.parts.Stopped.TheVariants.{Memory}
+use Rattle.sap_files.specs.declared.failure.DesignFailure.{DesignFailure}
+use Rattle.sap_files.specs.declared.failure.DesignFailure.TheVariants.{Memory}
 use Rattle.sap_linking.proofs.Later.{reading_ends_later}
 use Rattle.sap_linking.proofs.PartEnds.{starved_there}
 
@@ -63,7 +63,7 @@ module _ {ls : Levels} {parts : List Part} {k : ℕ} {loaded : List LoadedPart} 
   }
 
   -- the command ends at this one
-  pub stopped_here : (why : Stopped) → GetsPart ls p (Err why) b c → EndsAtPart ls parts k why a c
+  pub stopped_here : (why : DesignFailure) → GetsPart ls p (Err why) b c → EndsAtPart ls parts k why a c
   stopped_here why ends =
       record { part = p; is_part = at; designs = loaded_designs loaded; have = so_far.have; ends = reading_ends_later so_far.quiet (part_file ls p.name) ends }
 

@@ -1,5 +1,5 @@
 -- What reading the file of a part comes to, by what reading it as a design file does.
-use Rattle.sap_lemmas.proofs.Common.{◌≡◌, ℕ, List, refl, sym, ◌∙◌, ap, subst, inl, inr, Option, Some, Ok, Err}
+use Rattle.sap_lemmas.proofs.Common.{◌≡◌, ℕ, List, refl, sym, subst, inl, inr, Some, Ok, Err}
 use Rattle.sap_lattice.specs.Levels.{Levels}
 use Rattle.sap_parse.specs.Limits.{most_bytes}
 use Rattle.sap_tree.specs.Syntax.{DesignTree}
@@ -9,89 +9,43 @@ use Rattle.sap_size.specs.Items.{IsSmall}
 use Rattle.sap_share.specs.Copying.{CopiesPorts}
 use Rattle.sap_system.specs.declared.file.Part.{Part}
 use Rattle.sap_linked.specs.Designs.{IsNetOfDesign}
-use Rattle.sap_files.specs.declared.fault.DesignFault.{DesignFault}
-use Rattle.sap_files.specs.Prelude.{refused, failed, no_memory, design_refused, part_refused, IsWellFormedText, design_file, EndsReading, FaultRose, GetsChecked, Moment, NotRead, Reads, Refuses, Stops, ending}
-use Rattle.sap_files.specs.declared.failure.Failure.{Failure}
-use Rattle.sap_files.specs.declared.failure.Failure.TheVariants as failure
-use Rattle.sap_files.specs.declared.refusal.Refusal.TheVariants as refusal
-use Rattle.sap_files.proofs.Ended.{between_map}
+use Rattle.sap_files.specs.Prelude.{part_refused, IsDesignFault, IsWellFormedText, design_ending, design_file, GetsDesign, Moment, Reads, Refuses, Stops}
+use Rattle.sap_files.specs.declared.failure.DesignFailure.{DesignFailure}
+use Rattle.sap_files.specs.declared.failure.DesignFailure.TheVariants.{Refused, Failed, Memory}
 use Rattle.sap_linking.specs.Kinds.{part_file}
-use Rattle.sap_linking.specs.Parts.{GetsPart, stop_from, stop_of}
+use Rattle.sap_linking.specs.Parts.{GetsPart, stop_of}
 use Rattle.sap_linking.specs.declared.parts.LoadedPart.{LoadedPart}
-use Rattle.sap_linking.specs.declared.parts.Stopped.{Stopped}
-use Rattle.sap_linking.specs.declared.parts.Stopped.TheVariants.{Memory}
 
 -- the bytes are refused
+refused_so : (ls : Levels) (p : Part) (bytes : List ℕ) (why : DesignFailure) → Refuses (design_file ls) bytes (design_ending p.file why)
+    → Refuses (part_file ls p.name) bytes (stop_of p why)
+refused_so ls p bytes (Refused fault) (inl is) = cc
+refused_so ls p bytes (Refused fault) (inr (reason, is, (other, was, first))) =
+    let same : other ≡ fault = cc in inr (part_refused p.name fault, refl, (fault, refl, subst (IsDesignFault ls bytes) same first))
+refused_so ls p bytes Failed (inl is) = cc
+refused_so ls p bytes Failed (inr (reason, is, refusal)) = cc
+refused_so ls p bytes Memory refuses = inl refl
 
-of_memory : (e : Failure) → ending e ≡ no_memory → e ≡ failure.Memory
-of_memory (failure.Refused why) is = cc
-of_memory (failure.Desk name) is = cc
-of_memory (failure.PartFile name) is = cc
-of_memory failure.Memory is = refl
+-- it can't be read
+stopped_so : (p : Part) (why : DesignFailure) {a b : Moment} → Stops (Some most_bytes) p.file (design_ending p.file why) a b → Stops (Some most_bytes) p.file (stop_of p why) a b
+stopped_so p (Refused fault) s = absurd s.free
+stopped_so p Failed s = s
+stopped_so p Memory s = s
 
-of_design : (e : Failure) (fault : DesignFault) → ending e ≡ refused (design_refused fault) → e ≡ failure.Refused (refusal.Design fault)
-of_design (failure.Refused (refusal.Lattice f)) fault is = cc
-of_design (failure.Refused (refusal.Design f)) fault is = cc
-of_design (failure.Refused (refusal.Part part f)) fault is = cc
-of_design (failure.Refused (refusal.System f)) fault is = cc
-of_design (failure.Refused (refusal.Wires f)) fault is = cc
-of_design (failure.Refused (refusal.Stimulus place f)) fault is = cc
-of_design (failure.Refused (refusal.Module f)) fault is = cc
-of_design (failure.Refused (refusal.Taint f)) fault is = cc
-of_design (failure.Refused (refusal.Level word)) fault is = cc
-of_design (failure.Refused (refusal.Lengths one other)) fault is = cc
-of_design (failure.Refused (refusal.Input cycle name)) fault is = cc
-of_design (failure.Refused (refusal.Wave f)) fault is = cc
-of_design (failure.Refused (refusal.Assembly place f)) fault is = cc
-of_design (failure.Desk name) fault is = cc
-of_design (failure.PartFile name) fault is = cc
-of_design failure.Memory fault is = cc
-
-refused_so : (ls : Levels) (p : Part) (bytes : List ℕ) (e : Failure) → Refuses (design_file ls) bytes (ending e) → Refuses (part_file ls p.name) bytes (stop_of p (stop_from e))
-refused_so ls p bytes e (inl is) =
-    subst (λ (f : Failure). Refuses (part_file ls p.name) bytes (stop_of p (stop_from f))) (sym (of_memory e is)) (inl refl)
-refused_so ls p bytes e (inr (why, is, (fault, was, first))) =
-    subst (λ (f : Failure). Refuses (part_file ls p.name) bytes (stop_of p (stop_from f))) (sym (of_design e fault (is ∙ ap refused was)))
-    (inr (part_refused p.name fault, refl, (fault, refl, first)))
-
--- it can't be read: a failed call blames the file that was named
-
-blamed : {most : Option ℕ} {name blame : List ℕ} {a b : Moment} → Stops most name (failed blame) a b → Stops most name (failed name) a b
-blamed {most = most} {name = name} {blame = blame} {a = a} {b = b} s = record {
-  free = tt;
-  told =
-      let F : Type 0 = FaultRose a b in
-      between_map (NotRead most name (failed blame) F) (NotRead most name (failed name) F) a.told b.told
-      (λ t n r. record { files = r.files; output = r.output; same = r.same; blames = r.blames ∙ r.opens.0; opens = (refl, r.opens.1); outside = r.outside }) s.told;
-  faults = s.faults;
-  lost = s.lost;
-  sure = s.sure;
-}
-
-stopped_so : (p : Part) (e : Failure) {a b : Moment} → Stops (Some most_bytes) p.file (ending e) a b → Stops (Some most_bytes) p.file (stop_of p (stop_from e)) a b
-stopped_so p (failure.Refused why) s = absurd s.free
-stopped_so p (failure.Desk name) s = blamed s
-stopped_so p (failure.PartFile name) s = blamed s
-stopped_so p failure.Memory s = s
-
-part_ends : (ls : Levels) (p : Part) (e : Failure) {a b : Moment} → EndsReading p.file (design_file ls) (ending e) a b
-    → EndsReading p.file (part_file ls p.name) (stop_of p (stop_from e)) a b
-part_ends ls p e (inl stops) = inl (stopped_so p e stops)
-part_ends ls p e (inr (bytes, reads, refuted)) = inr (bytes, reads, refused_so ls p bytes e refuted)
+part_ends : (ls : Levels) (p : Part) (why : DesignFailure) {a b : Moment} → GetsDesign ls p.file (Err why) a b → GetsPart ls p (Err why) a b
+part_ends ls p why (inl stops) = inl (stopped_so p why stops)
+part_ends ls p why (inr (bytes, reads, refuted)) = inr (bytes, reads, refused_so ls p bytes why refuted)
 
 module _ (ls : Levels) (p : Part) (a b : Moment) where
   -- so it is where the file of this name is the part's
-  pub ends_there : (name : List ℕ) (e : Failure) (why : Stopped) → name ≡ p.file → why ≡ stop_from e → EndsReading name (design_file ls) (ending e) a b
-      → GetsPart ls p (Err why) a b
-  ends_there name e why same is ends =
-      subst (λ (w : Stopped). EndsReading p.file (part_file ls p.name) (stop_of p w) a b) (sym is)
-      (part_ends ls p e (subst (λ (n : List ℕ). EndsReading n (design_file ls) (ending e) a b) same ends))
+  pub ends_there : (name : List ℕ) (why : DesignFailure) → name ≡ p.file → GetsDesign ls name (Err why) a b → GetsPart ls p (Err why) a b
+  ends_there name why same ends = part_ends ls p why (subst (λ (n : List ℕ). GetsDesign ls n (Err why) a b) same ends)
 
   -- it was read, and there was no memory behind it
   pub starved_there : (bytes : List ℕ) → Reads p.file bytes a b → GetsPart ls p (Err Memory) a b
   starved_there bytes reads = inr (bytes, reads, inl refl)
 
-module _ (ls : Levels) (p : Part) (a b : Moment) (name : List ℕ) (same : name ≡ p.file) (checked : Checked) (got : GetsChecked ls name (Ok checked) a b) where
+module _ (ls : Levels) (p : Part) (a b : Moment) (name : List ℕ) (same : name ≡ p.file) (checked : Checked) (got : GetsDesign ls name (Ok checked) a b) where
   here : Reads p.file got.0 a b
   here = subst (λ (n : List ℕ). Reads n got.0 a b) same got.1
 

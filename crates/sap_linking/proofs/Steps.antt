@@ -12,7 +12,7 @@ use Rattle.sap_files.proofs.Lattices.{whole_same}
 use Rattle.sap_linking.specs.Asked.{asks_link, asks_parts, asks_wired}
 use Rattle.sap_linking.specs.Kinds.{system_file}
 use Rattle.sap_linking.specs.Parts.{EndsAtPart, Links, ReadsParts, stop_of}
-use Rattle.sap_linking.specs.declared.parts.Stopped.{Stopped}
+use Rattle.sap_files.specs.declared.failure.DesignFailure.{DesignFailure}
 use Rattle.sap_linking.proofs.Alike.{ends_in, links_in, reads_in}
 use Rattle.sap_linking.proofs.Asked.{part_stopped, parts_read}
 use Rattle.sap_linking.proofs.Linked.{linked_ended, unlinked_ended}
@@ -36,7 +36,7 @@ module _ (lattice system out : List ℕ) {bytes : List ℕ} {a b : Moment} (k : 
     read_in {d = d} ds parts = subst (λ (qs : List Part). ReadsParts (whole k) qs ds c d) is (reads_in k (whole k) same parts)
 
     -- a part is not loaded
-    pub stopped : {d : Moment} (place : ℕ) (why : Stopped) (failure : Failure) → EndsAtPart k ps place why c d
+    pub stopped : {d : Moment} (place : ℕ) (why : DesignFailure) (failure : Failure) → EndsAtPart k ps place why c d
         → ((p : Part) → slice_get s.parts place ≡ Some p → ending failure ≡ stop_of p why) → Ends (asks_link lattice system out) (ending failure) a d
     stopped {d = d} place why failure at told =
         let there : EndsAtPart (whole k) s.parts place why c d =

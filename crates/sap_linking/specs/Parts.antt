@@ -26,8 +26,8 @@ use Rattle.sap_files.specs.declared.refusal.Refusal.TheVariants as refusal
 use Rattle.sap_linking.specs.Asked.{IsLinkedText}
 use Rattle.sap_linking.specs.Kinds.{part_file}
 use Rattle.sap_linking.specs.declared.parts.LoadedPart.{LoadedPart}
-use Rattle.sap_linking.specs.declared.parts.Stopped.{Stopped}
-use Rattle.sap_linking.specs.declared.parts.Stopped.TheVariants.{Refused, Failed, Memory}
+use Rattle.sap_files.specs.declared.failure.DesignFailure.{DesignFailure}
+use Rattle.sap_files.specs.declared.failure.DesignFailure.TheVariants.{Refused, Failed, Memory}
 
 abbrev pub loaded_design : LoadedPart → NamedDesign
 loaded_design p = record { name = p.name; design = tree_in p.checked }
@@ -47,17 +47,10 @@ pub record HasNet (ls : Levels) (p : LoadedPart) : Type 0 where
   pub copies : CopiesPorts p.netlist
 
 -- how the command ends at a part
-abbrev pub stop_of : Part → Stopped → Ending
+abbrev pub stop_of : Part → DesignFailure → Ending
 stop_of p (Refused fault) = refused (part_refused p.name fault)
 stop_of p Failed = failed p.file
 stop_of p Memory = no_memory
-
--- why a part isn't loaded whose file can't be read as a design, by how reading one fails; of a design file nothing else is refused
-abbrev pub stop_from : Failure → Stopped
-stop_from (failure.Refused (refusal.Design fault)) = Refused fault
-stop_from (failure.Desk name) = Failed
-stop_from (failure.PartFile name) = Failed
-stop_from e = Memory
 
 -- the design file of a part was read, and its bytes stand for its design over these levels
 pub record ReadsPart (ls : Levels) (p : Part) (d : NamedDesign) (before after : Moment) : Type 0 where
@@ -67,7 +60,7 @@ pub record ReadsPart (ls : Levels) (p : Part) (d : NamedDesign) (before after : 
   pub stands : IsWellFormedText ls bytes d.design
 
 -- so it was, and the part was loaded; or the command ends there
-abbrev pub GetsPart : Levels → Part → Result LoadedPart Stopped → Moment → Moment → Type 0
+abbrev pub GetsPart : Levels → Part → Result LoadedPart DesignFailure → Moment → Moment → Type 0
 GetsPart ls p (Ok loaded) before after = ReadsPart ls p (loaded_design loaded) before after × HasNet ls loaded
 GetsPart ls p (Err why) before after = EndsReading p.file (part_file ls p.name) (stop_of p why) before after
 
@@ -84,7 +77,7 @@ pub record ReadsParts (ls : Levels) (parts : List Part) (designs : List NamedDes
   pub have : AllZip (HasPart ls before.told) parts designs
 
 -- the command ends at the part of this place, from 0, those before it having designs
-pub record EndsAtPart (ls : Levels) (parts : List Part) (place : ℕ) (why : Stopped) (before after : Moment) : Type 0 where
+pub record EndsAtPart (ls : Levels) (parts : List Part) (place : ℕ) (why : DesignFailure) (before after : Moment) : Type 0 where
   pub part : Part
   pub is_part : slice_get parts place ≡ Some part
   pub designs : List NamedDesign

@@ -9,10 +9,10 @@ ghost use Rattle.sap_linker.specs.Given.{design_names, design_with_net};
 ghost use Rattle.sap_linking.specs.Asked.{asks_link};
 ghost use Rattle.sap_linking.specs.Parts.{HasNet, Links, loaded_designs, loaded_net, stop_of, wires_failure};
 
-use crate::parts::{LoadedPart, Stopped, StoppedAt};
+use crate::parts::{LoadedPart, StoppedAt};
 use crate::reading::{load_parts, system_of_file};
 use sap_desk::{Bytes, Desk};
-use sap_files::failure::Failure;
+use sap_files::failure::{DesignFailure, Failure};
 use sap_files::refusal::Refusal;
 use sap_files::{lattice_of_file, write};
 use sap_lattice::lattice::Lattice;
@@ -37,9 +37,9 @@ fn failure_at<'a>(system: SystemFile, stopped: StoppedAt) -> Failure<'a>
 {
     let part = system.into_part(stopped.place);
     match stopped.why {
-        Stopped::Refused(fault) => Failure::Refused(Refusal::Part(part.name, fault)),
-        Stopped::Failed => Failure::PartFile(part.file),
-        Stopped::Memory => Failure::Memory,
+        DesignFailure::Refused(fault) => Failure::Refused(Refusal::Part(part.name, fault)),
+        DesignFailure::Failed => Failure::PartFile(part.file),
+        DesignFailure::Memory => Failure::Memory,
     }
 }
 

@@ -8,15 +8,14 @@ ghost use Rattle.sap_share.specs.Copying.{CopiesPorts};
 ghost use Rattle.sap_linked.specs.Designs.{IsNetOfDesign};
 ghost use Rattle.sap_files.specs.Steps.{Gets, Gives, seen};
 ghost use Rattle.sap_linking.specs.Kinds.{system_file};
-ghost use Rattle.sap_linking.specs.Parts.{EndsAtPart, GetsPart, HasNet, ReadsParts, loaded_designs, stop_from, system_failure};
+ghost use Rattle.sap_linking.specs.Parts.{EndsAtPart, GetsPart, HasNet, ReadsParts, loaded_designs, system_failure};
 
-use crate::parts::{LoadedPart, Stopped, StoppedAt};
+use crate::parts::{LoadedPart, StoppedAt};
 use sap_check::Checked;
 use sap_compile::design_netlist;
 use sap_desk::{Bytes, Desk};
-use sap_files::failure::Failure;
-use sap_files::files::checked_of_file;
-use sap_files::read;
+use sap_files::failure::{DesignFailure, Failure};
+use sap_files::{design_of_file, read};
 use sap_files::refusal::Refusal;
 use sap_lattice::lattice::Lattice;
 use sap_system::{Part, SysFault, SystemFile, read_system};
@@ -53,16 +52,6 @@ pub(crate) fn system_of_file<'a, D: Desk>(
     system_from(alloc, &bytes)
 }
 
-fn stopped(failure: Failure<'_>) -> Stopped
-    ensures { result ≡ stop_from failure.entry }
-{
-    match failure {
-        Failure::Refused(Refusal::Design(fault)) => Stopped::Refused(fault),
-        Failure::Desk(_) | Failure::PartFile(_) => Stopped::Failed,
-        Failure::Refused(_) | Failure::Memory => Stopped::Memory,
-    }
-}
-
 /// The part with this design, and the netlist of the design.
 fn loaded(alloc: Global, part: &Part, checked: Checked) -> Result<LoadedPart, AllocError>
     ensures name { IfOk result (λ p. p.name ≡ part.now.name) }
@@ -87,13 +76,11 @@ fn load_part<D: Desk>(
     desk: &mut D,
     lattice: &Lattice,
     part: &Part,
-) -> Result<LoadedPart, Stopped>
+) -> Result<LoadedPart, DesignFailure>
     ensures { GetsPart lattice.now part.now result (seen D.told D.faults D.lost D.sure desk.old) (seen D.told D.faults D.lost D.sure desk.new) }
 {
-    match checked_of_file(alloc, desk, lattice, part.file.as_str()) {
-        Ok(checked) => Ok(loaded(alloc, part, checked)?),
-        Err(failure) => Err(stopped(failure)),
-    }
+    let checked = design_of_file(alloc, desk, lattice, part.file.as_str())?;
+    Ok(loaded(alloc, part, checked)?)
 }
 
 /// Reads the files of parts in order.
@@ -114,7 +101,7 @@ pub(crate) fn load_parts<D: Desk>(
                 if made.push(one).is_err() {
                     return Err(StoppedAt {
                         place,
-                        why: Stopped::Memory,
+                        why: DesignFailure::Memory,
                     });
                 }
             }

@@ -27,8 +27,7 @@ means ls d text (net, is) = record {
   means = is.stands.stands;
   agree = is.agrees;
   look_alike = is.looks_alike;
-  folded = is.folded;
-  copies = is.copies;
+  tidy = is.tidy;
   small = is.small;
 }
 

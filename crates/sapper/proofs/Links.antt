@@ -39,9 +39,10 @@ means ls designs wires text (net, is, linked, small) = record {
   stands = linked.is_module.stands.stands;
   starts = linked.is_module.stands.starts;
   one_run = linked.is_module.one_run;
+  composites = linked.is_module.composites;
   agree = linked.is_module.agree;
   look_alike = linked.is_module.look_alike;
-  folded = linked.is_module.folded;
+  tidy = linked.is_module.tidy;
   small = small;
 }
 

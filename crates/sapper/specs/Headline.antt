@@ -18,8 +18,8 @@ use Rattle.sap_interface.specs.Interface.{HasInterface}
 use Rattle.sap_interface.specs.StandsFor.{world}
 use Rattle.sap_compile.specs.Agree.{RunsAgree, RunsLookAlike}
 use Rattle.sap_size.specs.Items.{IsSmall}
-use Rattle.sap_share.specs.Copying.{CopiesPorts}
-use Rattle.sap_trim.specs.Trimmed.{FoldsWires}
+use Rattle.sap_trim.specs.Names.{port_names}
+use Rattle.sap_compile.specs.Tidy.{IsTidy}
 use Rattle.sap_compile.specs.Runs.{HasOneRunOnStreams}
 use Rattle.sap_words.specs.Words.{command_of, compile}
 use Rattle.sap_files.specs.Kinds.{Has, IsWellFormedText, lattice_file, design_file}
@@ -32,7 +32,8 @@ MeansInEveryCycle ls d net =
     → (vs : List Valuation) → IsRun net (coded_stream (named_of ls d).code stream) vs
     → CyclesStand (named_of ls d) (site_count_of d) (map (observed net) vs) (labelled_run (named_of ls d).program stream)
 
--- A text is the one module that means what a design does: cycle for cycle, with runs that agree where streams do, folded, and within a bound on its size.
+-- A text is the one module that means what a design does: cycle for cycle, with runs that agree where streams do, without needless wires, and
+-- within a bound on its size.
 pub record MeansDesign (ls : Levels) (d : DesignTree) (text : List ℕ) : Type 0 where
   pub net : Net
   -- by the grammar of modules the text is this module, and no other
@@ -48,10 +49,9 @@ pub record MeansDesign (ls : Levels) (d : DesignTree) (text : List ℕ) : Type 0
   -- on streams that agree at or below a level the runs agree there in every cycle, in states and refusals and in plain numbers
   pub agree : RunsAgree ls d net
   pub look_alike : RunsLookAlike ls d net
-  -- no helping wire is a copy, and no rule for a right side by itself makes one simpler
-  pub folded : FoldsWires net
-  -- each wire that is a port, so each of the two of a check site, is a copy
-  pub copies : CopiesPorts net
+  -- each helping wire is read, no two are alike, none is a copy, and no rule for a right side by itself makes one simpler; and each wire that is a port, so each
+  -- of the two of a check site, is a copy
+  pub tidy : IsTidy (port_names net) net
   -- it is small
   pub small : IsSmall ls d net
 

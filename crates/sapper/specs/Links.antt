@@ -15,14 +15,17 @@ use Rattle.sap_system.specs.Wires.{FirstLinkFault, KeepsWires}
 use Rattle.sap_system.specs.declared.file.Part.{Part}
 use Rattle.sap_system.specs.declared.file.WireText.{WireText}
 use Rattle.sap_system.specs.declared.link_fault.LinkFault.{LinkFault}
+use Rattle.sap_compile.specs.Tidy.{IsTidy}
 use Rattle.sap_link.specs.Systems.{Wire}
+use Rattle.sap_link.specs.Agree.{RunsOfStreamsAgree}
+use Rattle.sap_linked.specs.Parts.{system_of}
+use Rattle.sap_linked.specs.Netlist.{shown_names}
 use Rattle.sap_linked.specs.Designs.{NamedDesign, named_system}
 use Rattle.sap_linked.specs.Standing.{NetStandsForSystem}
 use Rattle.sap_linked_small.specs.Laws.{NetStartsAsSystem}
 use Rattle.sap_linked_agree.specs.Agree.{SystemRunsAgree, SystemRunsLookAlike, SystemHasOneRun}
 use Rattle.sap_wiring.specs.Wiring.{AreWiresOf}
 use Rattle.sap_linker.specs.Given.{surroundings}
-use Rattle.sap_linker.specs.Modules.{FoldsInnerWires}
 use Rattle.sap_linker.specs.Sizes.{IsSmallSystem}
 use Rattle.sap_words.specs.Words.{command_of, link}
 use Rattle.sap_files.specs.Ending.{line_of, refused, wires_refused}
@@ -30,7 +33,7 @@ use Rattle.sap_files.specs.Kinds.{Has, IsWellFormedText, lattice_file, design_fi
 use Rattle.sap_linking.specs.Kinds.{system_file}
 
 -- A text is the one module that means what designs do that are linked by the wires that texts stand for: cycle for cycle, with runs that agree where streams
--- do, folded, and within a bound on its size.
+-- do, without needless wires, and within a bound on its size.
 pub record MeansSystem (ls : Levels) (designs : List NamedDesign) (texts : List WireText) (text : List ℕ) : Type 0 where
   pub net : Net
   -- by the grammar of modules the text is this module, and no other
@@ -46,11 +49,14 @@ pub record MeansSystem (ls : Levels) (designs : List NamedDesign) (texts : List 
   pub starts : NetStartsAsSystem (named_system ls designs wires) net
   -- on any stream that fits the free inputs it has one run
   pub one_run : SystemHasOneRun (named_system ls designs wires) net
-  -- on streams that agree at or below a level the runs agree there in every cycle, part by part, in states and refusals and in plain numbers
+  -- on streams that agree at or below a level the composite runs agree there in every cycle, part by part, in states and refusals
+  pub composites : RunsOfStreamsAgree (system_of (named_system ls designs wires))
+  -- and so do the module's runs, in states and refusals and in plain numbers
   pub agree : SystemRunsAgree (named_system ls designs wires) net
   pub look_alike : SystemRunsLookAlike (named_system ls designs wires) net
-  -- no helping wire is a copy, and no rule for a right side by itself makes one simpler
-  pub folded : FoldsInnerWires (named_system ls designs wires) net
+  -- each helping wire is read, no two are alike, none is a copy, and no rule for a right side by itself makes one simpler; and each wire that is a port, or stands
+  -- for a fed input, is a copy
+  pub tidy : IsTidy (shown_names (named_system ls designs wires)) net
   -- it is small
   pub small : IsSmallSystem ls designs (length texts) net
 

@@ -20,10 +20,13 @@ returns-clause-compiled c =
       has_one_run = c.runs.ensures.one;
       agrees = c.runs.ensures.agree;
       looks_alike = c.runs.ensures.look_alike;
-      shared = c.in_ok-netlist.ensures.shared;
-      folded = c.in_ok-netlist.ensures.folded;
-      read = c.in_ok-netlist.ensures.read;
-      copies = c.in_ok-netlist.ensures.copies;
+      tidy =
+          record {
+            read = c.in_ok-netlist.ensures.read;
+            shared = c.in_ok-netlist.ensures.shared;
+            folded = c.in_ok-netlist.ensures.folded;
+            copies = c.in_ok-netlist.ensures.copies;
+          };
       small = c.in_ok-netlist.ensures.small;
     }
 

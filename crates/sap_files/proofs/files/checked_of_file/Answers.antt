@@ -1,11 +1,5 @@
-use Rattle.sap_lemmas.proofs.Common.{inl, err_from_is_err_and}
-use Rattle.sap_files.proofs.Reading.{checked_gets}
+use Rattle.sap_files.proofs.Reading.{checked_fails}
 use Rattle.sap_files.proofs.files.checked_of_file.Goals as goal
 
-pub returns-in_err-source : goal.returns-in_err-source
-returns-in_err-source g c =
-    let p = err_from_is_err_and c.from_residual.result c.from_residual.ensures.1 in
-    rw (p.1, p.2) (inl c.in_err-source.ensures)
-
-pub returns : goal.returns
-returns g c = checked_gets c.args.lattice.now c.checked_from.result c.in_ok-source.ensures c.checked_from.ensures
+pub returns-in-Err : goal.returns-in-Err
+returns-in-Err g c = checked_fails c.args.lattice.now c.in-Err.failure c.design_failure.result c.design_failure.ensures c.in-Err.ensures
