@@ -48,6 +48,7 @@ width1 Not w = w
 width1 Neg w = w
 width1 _ w = 1
 
+-- The width of the result of a binary operator.
 abbrev pub width2 : Op2 → ℕ → ℕ
 width2 Eq w = 1
 width2 Ne w = 1

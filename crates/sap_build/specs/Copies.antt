@@ -14,10 +14,12 @@ use Rattle.sap_net.specs.declared.parts.Memory.{Memory}
 use Rattle.sap_net.specs.Names.{is_name, is_among}
 use Rattle.sap_net.specs.Net.{Net}
 
+-- An operand with its name replaced.
 abbrev pub copy_operand : (Name → Name) → Operand → Operand
 copy_operand f (Named x) = Named (f x)
 copy_operand f (Constant w n) = Constant w n
 
+-- A right side with its names replaced.
 abbrev pub copy_right : (Name → Name) → Right → Right
 copy_right f (Copy a) = Copy (copy_operand f a)
 copy_right f (One op a) = One op (copy_operand f a)
@@ -27,18 +29,23 @@ copy_right f (Concat os) = Concat (map (copy_operand f) os)
 copy_right f (Slice x hi lo) = Slice (f x) hi lo
 copy_right f (Cell m i) = Cell (f m) (copy_operand f i)
 
+-- A port with its name replaced.
 abbrev pub copy_port : (Name → Name) → Port → Port
 copy_port f p = record { name = f p.name; kind = p.kind }
 
+-- An input with its name replaced.
 abbrev pub copy_input : (Name → Name) → Input → Input
 copy_input f i = record { name = f i.name; width = i.width }
 
+-- A wire with its names replaced.
 abbrev pub copy_wire : (Name → Name) → Wire → Wire
 copy_wire f w = record { name = f w.name; width = w.width; right = copy_right f w.right }
 
+-- A register with its names replaced.
 abbrev pub copy_register : (Name → Name) → Register → Register
 copy_register f r = record { name = f r.name; width = r.width; start = r.start; next = copy_operand f r.next }
 
+-- A memory with its names replaced.
 abbrev pub copy_memory : (Name → Name) → Memory → Memory
 copy_memory f m =
     record {

@@ -13,21 +13,27 @@ use Rattle.sap_net.specs.Net.{Net}
 use Rattle.sap_net.specs.IsNetlist.{IsNetlist}
 use Rattle.sap_build.specs.Writing.{blank, declared, shown, with_input, assigned, registered, with_memory}
 
+-- The counter's input.
 abbrev pub step : Input
 step = record { name = codes "step"; width = 8 }
 
+-- The wire with the next count.
 abbrev pub next : Wire
 next = record { name = codes "n1"; width = 8; right = Two Add (Named (codes "count")) (Named (codes "step")) }
 
+-- The wire with the cell that is written: the two low bits of the count.
 abbrev pub place : Wire
 place = record { name = codes "n2"; width = 2; right = Slice (codes "n1") 1 0 }
 
+-- The wire that shows the next count.
 abbrev pub output : Wire
 output = record { name = codes "out"; width = 8; right = Copy (Named (codes "n1")) }
 
+-- The register that counts.
 abbrev pub count : Register
 count = record { name = codes "count"; width = 8; start = 0; next = Named (codes "n1") }
 
+-- The memory that keeps each count.
 abbrev pub counts : Memory
 counts =
     record {
@@ -52,5 +58,6 @@ counter_names =
 abbrev pub counter : Net
 counter = with_memory counts (registered count (assigned output (assigned place (assigned next counter_names))))
 
+-- The counter is a netlist.
 abbrev pub CounterIsNetlist : Type 0
 CounterIsNetlist = IsNetlist counter

@@ -16,9 +16,11 @@ use Rattle.sap_build.specs.Copies.{copy_wire, copy_register, copy_memory}
 abbrev pub wires_named : Net → List (Name × Wire)
 wires_named n = map (λ w. (w.name, w)) n.wires
 
+-- The registers by their names.
 abbrev pub registers_named : Net → List (Name × Register)
 registers_named n = map (λ r. (r.name, r)) n.registers
 
+-- The memories by their names.
 abbrev pub memories_named : Net → List (Name × Memory)
 memories_named n = map (λ m. (m.name, m)) n.memories
 

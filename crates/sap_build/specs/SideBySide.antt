@@ -13,15 +13,19 @@ use Rattle.sap_net.specs.Summing.{summing}
 use Rattle.sap_build.specs.Copies.{copy_net}
 use Rattle.sap_build.specs.Parts.{IsPart}
 
+-- The left copy's name for x.
 abbrev pub left : Name → Name
 left x = codes "left_" ++ x
 
+-- The right copy's name for x.
 abbrev pub right : Name → Name
 right x = codes "right_" ++ x
 
+-- The left copy of the summing net.
 abbrev pub left_sum : Net
 left_sum = copy_net (codes "top") left summing
 
+-- The right copy of the summing net.
 abbrev pub right_sum : Net
 right_sum = copy_net (codes "top") right summing
 
@@ -29,9 +33,11 @@ right_sum = copy_net (codes "top") right summing
 abbrev pub feed : Wire
 feed = record { name = codes "right_a"; width = 8; right = Copy (Named (codes "left_d")) }
 
+-- A port of a name and a kind.
 abbrev pub shown : (List ℕ) → PortKind → Port
 shown name kind = record { name = name; kind = kind }
 
+-- The ports of the two copies side by side; the right input is fed and so a wire.
 abbrev pub both_ports : List Port
 both_ports =
     shown (codes "left_a") kind.Input
@@ -44,6 +50,7 @@ both_ports =
     ∷ shown (codes "right_d") kind.Register
     ∷ []
 
+-- The two copies side by side, the left sum feeding the right input.
 abbrev pub both : Net
 both =
     record {

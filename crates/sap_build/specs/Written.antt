@@ -21,6 +21,7 @@ pub record IsNew (n : Net) (x : Name) : Type 0 where
 abbrev pub ArePorts : Net → Type 0
 ArePorts n = map (λ p. p.name) n.ports ≡ n.names
 
+-- A netlist without items is one, under each name.
 abbrev pub BlankIsNetlist : Type 0
 BlankIsNetlist = (x : Name) → is_name x ≡ true → IsNetlist (blank x)
 

@@ -9,8 +9,10 @@ use Rattle.sap_check.specs.declared.checked.Checked.{Checked}
 abbrev pub design_in : Checked → Design
 design_in c = c.design
 
+-- The tree of the design that was checked.
 abbrev pub tree_in : Checked → DesignTree
 tree_in c = design_of c.design
 
+-- The levels of the lattice over which it was checked.
 abbrev pub levels_in : Checked → Levels
 levels_in c = c.lattice

@@ -12,6 +12,7 @@ use Rattle.sap_check.specs.Points.{point, points_of}
 use Rattle.sap_check.specs.Sites.{sites_of}
 use Rattle.sap_shape.specs.Examples.{number, block, one, low, leaf, home, decided}
 
+-- A check site at a column, for examples.
 abbrev pub site : ℕ → SiteKind → ℕ → Site
 site column kind entity = record { place = at column; kind = kind; entity = entity }
 
@@ -35,9 +36,11 @@ small start = record {
   states = and_state (leaf (codes "S") low (one 90 choosing)) no_state;
 }
 
+-- The check sites of the small design are its write and its three `goto`s.
 abbrev pub SmallSites : Type 0
 SmallSites = sites_of (small 0) ≡ site 40 sites.Write 0 ∷ site 48 sites.Goto 1 ∷ site 60 sites.Goto 1 ∷ site 77 sites.Goto 1 ∷ []
 
+-- Its points are its `if` and its `otherwise`.
 abbrev pub SmallPoints : Type 0
 SmallPoints = points_of (small 0) ≡ point points.If (at 30) ∷ point points.Otherwise (at 67) ∷ []
 
@@ -56,6 +59,7 @@ nested = record {
 abbrev pub NestedSites : Type 0
 NestedSites = sites_of nested ≡ site 25 sites.Fall 0 ∷ site 42 sites.Goto 0 ∷ site 80 sites.Goto 1 ∷ []
 
+-- The points of the nested design are its `fall` and the `otherwise` of it.
 abbrev pub NestedPoints : Type 0
 NestedPoints = points_of nested ≡ point points.Fall (at 25) ∷ point points.Otherwise (at 30) ∷ []
 
@@ -63,6 +67,7 @@ NestedPoints = points_of nested ≡ point points.Fall (at 25) ∷ point points.O
 abbrev pub site_on : (line column : ℕ) → SiteKind → ℕ → Site
 site_on l c kind entity = record { place = on l c; kind = kind; entity = entity }
 
+-- The check sites of the design with a `case`.
 abbrev pub DecidedSites : Type 0
 DecidedSites = sites_of decided
     ≡ site_on 3 1 sites.Write 2

@@ -8,6 +8,7 @@ use Rattle.sap_check.specs.declared.point.Point.{Point}
 use Rattle.sap_check.specs.declared.point.PointKind.{PointKind}
 use Rattle.sap_check.specs.declared.point.PointKind.TheVariants as kind
 
+-- A point of the report: its kind and its place.
 abbrev pub point : PointKind → Place → Point
 point k place = record { kind = k; place = place }
 
@@ -23,8 +24,10 @@ word_of (case_of place e arms) = point kind.Case place
 abbrev pub words_of : List Command → List Point
 words_of cs = map word_of cs
 
+-- The points of the report for points of the tree.
 abbrev pub words_at : List tree.Point → List Point
 words_at ps = map (λ (p : tree.Point). word_of p.command) ps
 
+-- The points of a design, in the order of its text.
 abbrev pub points_of : DesignTree → List Point
 points_of d = words_at (tree.points_of d)

@@ -8,6 +8,7 @@ use Rattle.sap_check.specs.declared.site.Site.{Site}
 use Rattle.sap_check.specs.declared.site.SiteKind.{SiteKind}
 use Rattle.sap_check.specs.declared.site.SiteKind.TheVariants as kind
 
+-- The kind of the site at which a step stands.
 abbrev pub kind_of_command : SimpleCommand → SiteKind
 kind_of_command (assign target e) = kind.Write
 kind_of_command (write target index e) = kind.Write
@@ -25,8 +26,10 @@ target_of h (set_cell_tag place target index tag) = target.name
 target_of h (go_to place target) = target.name
 target_of h (fall_to_child place) = h.home.name
 
+-- The report's site for a check site: its place, its kind and its entity.
 abbrev pub site_of : CheckSite → Site
 site_of s = record { place = place_of s.command; kind = kind_of_command s.command; entity = entity_number s.surroundings.entities (target_of s.surroundings s.command) }
 
+-- The sites of a design, in the order of its text.
 abbrev pub sites_of : DesignTree → List Site
 sites_of d = map site_of (check_sites d)

@@ -5,6 +5,7 @@ use Rattle.sap_machine.specs.declared.user.User.TheVariants.{A, B}
 use Rattle.sap_machine.specs.Table.{UserState}
 use Rattle.sap_machine.specs.Slices.{after_slices, holder}
 
+-- The word at a place; 0 beyond the last.
 abbrev pub word_at : (words : List ℕ) → (i : ℕ) → ℕ
 word_at words i = get_or words i 0
 
@@ -25,6 +26,7 @@ pub record CpuSeen : Type 0 where
   pub b : Seen
   pub holder : User
 
+-- The state of a user.
 abbrev pub state_of : CpuSeen → User → UserState
 state_of cpu A = user_state cpu.a
 state_of cpu B = user_state cpu.b

@@ -26,20 +26,24 @@ pub record Knows (widths : Name → ℕ) (ms : List Memory) (names : List Name) 
   pub memories : Finds k.memories (map (λ m. m.name) ms)
   pub bases : k.bases.items ≡ bases_of 0 ms
 
+-- A name has a place, and the place has a width.
 pub record IsKnown (k : Known) (x : Name) : Type 0 where
   pub place : ℕ
   pub found : at_name k.places x ≡ Some place
   pub within : place < length k.widths.items
 
+-- A memory's name has a number, and the number has a base.
 pub record IsKnownMemory (k : Known) (x : Name) : Type 0 where
   pub number : ℕ
   pub found : at_name k.memories x ≡ Some number
   pub within : number < length k.bases.items
 
+-- An operand's name is known; a constant always is.
 abbrev pub IsKnownOperand : Known → Operand → Type 0
 IsKnownOperand k (Named x) = IsKnown k x
 IsKnownOperand k (Constant w n) = Unit {0}
 
+-- The names in a right side are known.
 abbrev pub IsKnownRight : Known → Right → Type 0
 IsKnownRight k (right.Copy a) = IsKnownOperand k a
 IsKnownRight k (right.One op a) = IsKnownOperand k a
@@ -49,17 +53,21 @@ IsKnownRight k (right.Concat os) = AllByRecursion (IsKnownOperand k) os
 IsKnownRight k (right.Slice x hi lo) = IsKnown k x
 IsKnownRight k (right.Cell m i) = IsKnownMemory k m × IsKnownOperand k i
 
+-- The slot of an operand.
 abbrev pub slot_found : Known → Operand → Slot
 slot_found k (Named x) = At (unwrap_or (at_name k.places x) 0)
 slot_found k (Constant w n) = Number n
 
+-- The width of an operand.
 abbrev pub width_found : Known → Operand → ℕ
 width_found k (Named x) = slice_index k.widths.items (unwrap_or (at_name k.places x) 0)
 width_found k (Constant w n) = w
 
+-- An operand as a part of a concatenation: its slot and its width.
 abbrev pub part_found : Known → Operand → Part
 part_found k o = record { slot = slot_found k o; width = width_found k o }
 
+-- The base of a memory's cells.
 abbrev pub base_found : Known → Name → ℕ
 base_found k x = slice_index k.bases.items (unwrap_or (at_name k.memories x) 0)
 
@@ -72,6 +80,7 @@ abbrev pub concat_found : Known → (from : ℕ) → List Operand → Step
 concat_found k from (a ∷ (b ∷ [])) = pair_found k a b
 concat_found k from os = Concat from (from + length os)
 
+-- The parts of a concatenation that are listed apart; a pair needs none.
 abbrev pub concat_parts : Known → List Operand → List Part
 concat_parts k (a ∷ (b ∷ [])) = []
 concat_parts k os = map (part_found k) os
@@ -86,10 +95,12 @@ step_found k from (right.Concat os) = concat_found k from os
 step_found k from (right.Slice x hi lo) = Slice (At (unwrap_or (at_name k.places x) 0)) hi lo
 step_found k from (right.Cell m i) = Cell (base_found k m) (slot_found k i)
 
+-- The parts that a right side lists apart.
 abbrev pub parts_found : Known → Right → List Part
 parts_found k (right.Concat os) = concat_parts k os
 parts_found k _ = []
 
+-- The names in a memory's write port are known.
 abbrev pub IsKnownPort : Known → Memory → Type 0
 IsKnownPort k m = IsKnownOperand k m.enable × IsKnownOperand k m.index × IsKnownOperand k m.value
 

@@ -22,6 +22,7 @@ SlotMeans names (At k) (Named x) = slice_get names k ≡ Some x
 SlotMeans names (Number n) (Constant w m) = n ≡ m
 SlotMeans names _ _ = ⊥
 
+-- The parts stand for the operands of a concatenation, one for one.
 abbrev pub PartsMean : (widths : Name → ℕ) → (names : List Name) → List Part → List Operand → Type 0
 PartsMean widths names [] [] = Unit {0}
 PartsMean widths names (p ∷ ps) (o ∷ os) =
@@ -57,6 +58,7 @@ pub record BeginsAt (ms : List Memory) (x : Name) (base : ℕ) : Type 0 where
   pub named : memory.name ≡ x
   pub base_is : base ≡ cell_count before
 
+-- A step stands for a right side.
 abbrev pub StepMeans : (widths : Name → ℕ) → List Memory → List Part → (names : List Name) → Step → Right → Type 0
 StepMeans widths ms parts names (Copy s) (right.Copy a) = SlotMeans names s a
 StepMeans widths ms parts names (One op w s) (right.One o a) = (op ≡ o) × (w ≡ operand_width widths a) × SlotMeans names s a
@@ -76,15 +78,18 @@ StepsMean widths ms parts names (s ∷ ss) (w ∷ ws) =
     StepMeans widths ms parts names s w.right × StepsMean widths ms parts (names ++ w.name ∷ []) ss ws
 StepsMean widths ms parts names _ _ = ⊥
 
+-- The slots stand for the registers' next operands, one for one.
 abbrev pub NextsMean : (names : List Name) → List Slot → List Register → Type 0
 NextsMean names [] [] = Unit {0}
 NextsMean names (s ∷ ss) (r ∷ rs) = SlotMeans names s r.next × NextsMean names ss rs
 NextsMean names _ _ = ⊥
 
+-- A write port stands for a memory whose cells begin at a base.
 abbrev pub PortMeans : (names : List Name) → (base : ℕ) → WritePort → Memory → Type 0
 PortMeans names base p m =
     (p.base ≡ base) × SlotMeans names p.enable m.enable × SlotMeans names p.index m.index × SlotMeans names p.value m.value
 
+-- The write ports stand for the memories, whose cells stand one behind the other.
 abbrev pub PortsMean : (names : List Name) → (base : ℕ) → List WritePort → List Memory → Type 0
 PortsMean names base [] [] = Unit {0}
 PortsMean names base (p ∷ ps) (m ∷ ms) = PortMeans names base p m × PortsMean names (base + m.depth) ps ms

@@ -14,6 +14,7 @@ abbrev pub SlotAmong : (known : ℕ → Type 0) → Slot → Type 0
 SlotAmong known (At k) = known k
 SlotAmong known (Number x) = Unit {0}
 
+-- Each part's slot is among those that are known.
 abbrev pub PartsAmong : (known : ℕ → Type 0) → List Part → Type 0
 PartsAmong known ps = AllByRecursion (λ p. SlotAmong known p.slot) ps
 

@@ -53,6 +53,7 @@ can_be_seen n (Some v) x = is_some (find (readable n) x)
 abbrev pub value_seen : Net → (cycle : Option Valuation) → Name → Option ℕ
 value_seen n cycle x = if can_be_seen n cycle x then Some ((seen n cycle).value x) else None
 
+-- The number of a cell, where the memory has one of this index.
 abbrev pub cell_below : Option Memory → (index number : ℕ) → Option ℕ
 cell_below None i x = None
 cell_below (Some m) i x = if nat_lt i m.depth then Some x else None
@@ -61,9 +62,11 @@ cell_below (Some m) i x = if nat_lt i m.depth then Some x else None
 abbrev pub cell_seen : Net → (cycle : Option Valuation) → Name → (index : ℕ) → Option ℕ
 cell_seen n cycle x i = cell_below (find (map (λ m. (m.name, m)) n.memories) x) i ((seen n cycle).cell x i)
 
+-- The answer is the number that a name shows in the cycle that stands.
 abbrev pub GivesValue : Running → Name → Option ℕ → Type 0
 GivesValue r x number = (cycle : Option Valuation) → Shows r cycle → number ≡ value_seen r.net cycle x
 
+-- The answer is the number of a cell in the cycle that stands.
 abbrev pub GivesCell : Running → Name → (index : ℕ) → Option ℕ → Type 0
 GivesCell r x i number = (cycle : Option Valuation) → Shows r cycle → number ≡ cell_seen r.net cycle x i
 

@@ -12,6 +12,7 @@ use Rattle.sap_cycle.specs.declared.runs.Run.{Run}
 use Rattle.sap_cycle.specs.declared.runs.Run.TheVariants.{Alike, Other}
 use Rattle.sap_cycle.specs.Instructions.{placed_step}
 
+-- The step of an operator and its operands.
 abbrev pub step_of_operands : Operator → Operands → Step
 step_of_operands operator.Number o = Copy (Number o.a)
 step_of_operands operator.Add o = Two Add o.c (At o.a) (At o.b)
@@ -35,6 +36,7 @@ two_step op o = (o.target, Two op o.c (At o.a) (At o.b))
 abbrev pub operands_step : Operator → Operands → ℕ × Step
 operands_step op o = (o.target, step_of_operands op o)
 
+-- The steps of a run of equal operators, each with its place.
 abbrev pub run_steps : (others : List Step) → Run → List (ℕ × Step)
 run_steps others (Alike op steps) = map (operands_step op) steps.items
 run_steps others (Other steps) = map (placed_step others) steps.items

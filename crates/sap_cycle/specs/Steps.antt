@@ -9,6 +9,7 @@ use Rattle.sap_cycle.specs.declared.steps.Step.{Step}
 use Rattle.sap_cycle.specs.declared.steps.Step.TheVariants.{Copy, One, Two, Choose, Concat, Pair, Slice, Cell}
 use Rattle.sap_cycle.specs.declared.steps.WritePort.{WritePort}
 
+-- The number in a slot.
 abbrev pub slot_value : (values : List ℕ) → Slot → ℕ
 slot_value values (At k) = slice_index values k
 slot_value values (Number x) = x
@@ -18,6 +19,7 @@ abbrev pub joined_from : (values : List ℕ) → (front : ℕ) → List Part →
 joined_from values front [] = front
 joined_from values front (p ∷ ps) = joined_from values (joined front p.width (slot_value values p.slot)) ps
 
+-- The number that a step gives.
 abbrev pub step_value : (values cells : List ℕ) → List Part → Step → ℕ
 step_value values cells parts (Copy a) = slot_value values a
 step_value values cells parts (One op w a) = value1 op w (slot_value values a)
@@ -28,10 +30,12 @@ step_value values cells parts (Pair w a b) = joined (slot_value values a) w (slo
 step_value values cells parts (Slice a hi lo) = slice_of (slot_value values a) hi lo
 step_value values cells parts (Cell base i) = slice_index cells (base + slot_value values i)
 
+-- The slot's place is among the values.
 abbrev pub SlotIn : (values : List ℕ) → Slot → Type 0
 SlotIn values (At k) = k < length values
 SlotIn values (Number x) = Unit {0}
 
+-- The slots' places are among the values.
 abbrev pub AreIn : (values : List ℕ) → List Slot → Type 0
 AreIn values slots = AllByRecursion (SlotIn values) slots
 
@@ -60,6 +64,7 @@ abbrev pub settled : (cells : List ℕ) → List Part → List (ℕ × Step) →
 settled cells parts [] values = values
 settled cells parts (p ∷ ps) values = settled cells parts ps (slice_set values p.0 (step_value values cells parts p.1))
 
+-- Each step of a list can be taken after those before it.
 abbrev pub AreReady : (cells : List ℕ) → List Part → List (ℕ × Step) → List ℕ → Type 0
 AreReady cells parts [] values = Unit {0}
 AreReady cells parts (p ∷ ps) values =
@@ -74,14 +79,17 @@ abbrev pub stored_one : (values : List ℕ) → WritePort → List ℕ → List 
 stored_one values p cells =
     if slot_value values p.enable == 1 then slice_set cells (p.base + slot_value values p.index) (slot_value values p.value) else cells
 
+-- The cells after all write ports have written.
 abbrev pub stored : (values : List ℕ) → List WritePort → List ℕ → List ℕ
 stored values [] cells = cells
 stored values (p ∷ ps) cells = stored values ps (stored_one values p cells)
 
+-- A write port's slots and its cell are there.
 abbrev pub IsPortReady : (values : List ℕ) → WritePort → List ℕ → Type 0
 IsPortReady values p cells =
     SlotIn values p.enable × SlotIn values p.index × SlotIn values p.value × (p.base + slot_value values p.index < length cells)
 
+-- Each write port of a list can write after those before it.
 abbrev pub ArePortsReady : (values : List ℕ) → List WritePort → List ℕ → Type 0
 ArePortsReady values [] cells = Unit {0}
 ArePortsReady values (p ∷ ps) cells = IsPortReady values p cells × ArePortsReady values ps (stored_one values p cells)

@@ -36,6 +36,7 @@ abbrev pub flat_restart : (j : ℕ) → Forest → List Command
 flat_restart j none = []
 flat_restart j (state x b kids rest) = flat_first j x kids ++ (flat_restart j kids ++ flat_restart j rest)
 
+-- The commands of a `goto`: the group's register takes the target's number, and the groups below the target start anew.
 abbrev pub flat_goto : (seat : Name) → (group : Forest) → (j : ℕ) → (target : Name) → List Command
 flat_goto seat group j x =
     let kids = children_of group x in under j (seated seat group (place group x)) ∷ (flat_first j x kids ++ flat_restart j kids)
@@ -81,11 +82,13 @@ flat_group seat group (state x b kids rest) j k =
       next = r.next;
     }
 
+-- The commands of all states: the gates of the root's children, then their bodies.
 abbrev pub flat_states : Forest → Flat
 flat_states f =
     let r = flat_group root_seat f f 0 (size f) in
     record { commands = flat_gates (constant 1 1) root_seat (seat_width (size f)) f 0 0 ++ r.commands; next = r.next }
 
+-- The list of guarded commands for nested states, with a wire for each gate.
 abbrev pub flattened : Nested → Source
 flattened p =
     let r = flat_states p.states in

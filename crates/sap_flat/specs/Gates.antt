@@ -9,6 +9,7 @@ use Rattle.sap_ir.specs.declared.guarded.Var.{Var}
 unfoldable pub gate_name : ℕ → Name
 gate_name k = if nat_lt k (2 ^ 64) then byte "g" ∷ decimal k else replicate k 0
 
+-- The wire of a gate.
 abbrev pub gate_wire : ℕ → Var
 gate_wire k = record { name = gate_name k; width = 1; start = 0 }
 

@@ -23,6 +23,7 @@ abbrev pub is_own : Nested → Action → Bool
 is_own p (set x t) = is_among x (declared (declarations p)) && not (is_among x (seats p))
 is_own p (put m i t) = true
 
+-- The actions of guarded commands, in order.
 abbrev pub actions_of : List Command → List Action
 actions_of cs = map (λ c. c.act) cs
 

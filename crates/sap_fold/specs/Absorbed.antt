@@ -11,6 +11,7 @@ use Rattle.sap_fold.specs.Folding.{same_operand, is_number}
 use Rattle.sap_fold.specs.declared.rules.Outcome.{Outcome}
 use Rattle.sap_fold.specs.declared.rules.Outcome.TheVariants.{Keep, First, Second}
 
+-- The operand is one of the two.
 abbrev pub is_one_of : (o a b : Operand) → Bool
 is_one_of o a b = same_operand a o || same_operand b o
 

@@ -13,6 +13,7 @@ use Rattle.sap_net.specs.declared.parts.Right.TheVariants.{Copy, One, Two, Choos
 use Rattle.sap_fold.specs.declared.rules.Outcome.{Outcome}
 use Rattle.sap_fold.specs.declared.rules.Outcome.TheVariants.{Keep, Condition, First, Second, Number, NotCondition, NotFirst, NotSecond, ConditionAndFirst, ConditionOrSecond}
 
+-- The first outcome that changes something.
 abbrev pub or_else : Outcome → Outcome → Outcome
 or_else Keep g = g
 or_else Condition g = Condition
@@ -25,6 +26,7 @@ or_else NotSecond g = NotSecond
 or_else ConditionAndFirst g = ConditionAndFirst
 or_else ConditionOrSecond g = ConditionOrSecond
 
+-- The operand is a constant of this number.
 abbrev pub is_number : Operand → ℕ → Bool
 is_number (Named x) n = false
 is_number (Constant w m) n = m == n
@@ -43,6 +45,7 @@ abbrev pub is_full : Operand → Bool
 is_full (Named x) = false
 is_full (Constant w n) = fits w n && n == 2 ^ w - 1
 
+-- The two operands are the same name or the same constant.
 abbrev pub same_operand : Operand → Operand → Bool
 same_operand (Named x) (Named y) = bytes_eq x y
 same_operand (Named x) (Constant w n) = false
@@ -54,6 +57,7 @@ abbrev pub fold_one : Op1 → Operand → Outcome
 fold_one op (Named x) = Keep
 fold_one op (Constant w n) = if fits w n then Number (value1 op w n) else Keep
 
+-- The number fits the second operand of the operator.
 abbrev pub is_second : Op2 → (w n : ℕ) → Bool
 is_second Shl w n = true
 is_second Shr w n = true
@@ -66,24 +70,30 @@ fold_constants op (Constant w n) (Constant u m) =
 fold_constants op (Named x) b = Keep
 fold_constants op (Constant w n) (Named y) = Keep
 
+-- What the conjunction of two operands is, where it is known.
 abbrev pub fold_and : Operand → Operand → Outcome
 fold_and a b =
     if is_number b 0 || is_full a then Second else if is_number a 0 || is_full b || same_operand a b then First else Keep
 
+-- What the disjunction of two operands is, where it is known.
 abbrev pub fold_or : Operand → Operand → Outcome
 fold_or a b =
     if is_number b 0 || is_full a || same_operand a b then First else if is_number a 0 || is_full b then Second else Keep
 
+-- What the exclusive disjunction of two operands is, where it is known.
 abbrev pub fold_xor : Operand → Operand → Outcome
 fold_xor a b =
     if is_number b 0 then First else if is_number a 0 then Second else if same_operand a b then Number 0 else Keep
 
+-- What a sum is, where it is known.
 abbrev pub fold_add : Operand → Operand → Outcome
 fold_add a b = if is_number b 0 then First else if is_number a 0 then Second else Keep
 
+-- What a difference is, where it is known.
 abbrev pub fold_sub : Operand → Operand → Outcome
 fold_sub a b = if is_number b 0 then First else if same_operand a b then Number 0 else Keep
 
+-- What a product is, where it is known.
 abbrev pub fold_mul : Operand → Operand → Outcome
 fold_mul a b =
     if is_number b 0 || is_number a 1 then Second else if is_number a 0 || is_number b 1 then First else Keep
@@ -113,6 +123,7 @@ abbrev pub fold_shift : (w : ℕ) → Operand → Operand → Outcome
 fold_shift w a (Named y) = if is_number a 0 then First else Keep
 fold_shift w a (Constant u m) = if m == 0 || is_number a 0 then First else if nat_le w m then Number 0 else Keep
 
+-- What an operator's result is, where it is known.
 abbrev pub fold_operator : (w : ℕ) → Op2 → Operand → Operand → Outcome
 fold_operator w Add a b = fold_add a b
 fold_operator w Sub a b = fold_sub a b
@@ -127,6 +138,7 @@ fold_operator w Le a b = fold_at_most a b
 fold_operator w Shl a b = fold_shift w a b
 fold_operator w Shr a b = fold_shift w a b
 
+-- What an operator's result is, where both operands are constants or it is known.
 abbrev pub fold_two : (w : ℕ) → Op2 → Operand → Operand → Outcome
 fold_two w op a b = or_else (fold_constants op a b) (fold_operator w op a b)
 
@@ -144,10 +156,12 @@ fold_choose w c a b =
 
 -- the right side of an outcome
 
+-- The right side for an outcome of an operator of one operand.
 abbrev pub of_one : (w : ℕ) → Op1 → Operand → Outcome → Right
 of_one w op a (Number n) = Copy (Constant w n)
 of_one w op a _ = One op a
 
+-- The right side for an outcome of an operator of two operands.
 abbrev pub of_two : (w : ℕ) → Op2 → Operand → Operand → Outcome → Right
 of_two w op a b First = Copy a
 of_two w op a b Second = Copy b
@@ -156,6 +170,7 @@ of_two w op a b NotFirst = One Not a
 of_two w op a b NotSecond = One Not b
 of_two w op a b _ = Two op a b
 
+-- The right side for an outcome of a choice.
 abbrev pub of_choose : (c a b : Operand) → Outcome → Right
 of_choose c a b Condition = Copy c
 of_choose c a b First = Copy a

@@ -11,6 +11,7 @@ use Rattle.sap_net.specs.declared.parts.Wire.{Wire}
 use Rattle.sap_share.specs.Names.{helper}
 use Rattle.sap_fold.specs.Equals.{Over}
 
+-- Each of the wires is a helping wire whose number is below `next` and whose name isn't taken.
 abbrev pub Each : (taken : Name → Bool) (ws : List Wire) (next : ℕ) → Type 0
 Each taken ws next = AllByRecursion (λ w. (k : ℕ) × (k < next) × (w.name ≡ helper k) × (taken w.name ≡ false)) ws
 

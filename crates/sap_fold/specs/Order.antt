@@ -29,9 +29,11 @@ pub record AsksBit (ws : List Wire) (a b : Operand) (x : Name) (k : ℕ) : Type 
   pub number : HasGap a k
   pub joined : JoinedWith ws a b (Named x)
 
+-- One of the two operands asks for the bit and the other is asked.
 abbrev pub EitherAsks : List Wire → (a b : Operand) → Name → ℕ → Type 0
 EitherAsks ws a b x k = AsksBit ws a b x k ⊎ AsksBit ws b a x k
 
+-- Where the test holds the operand has one bit.
 abbrev pub IsBitWire : List Wire → Operand → Bool → Type 0
 IsBitWire ws o t = t ≡ true → HasWidth ws o 1
 

@@ -21,6 +21,7 @@ pub record Glues (a b o : Operand) : Type 0 where
   pub both : o ≡ Constant (u + t) (joined m t n)
   pub narrow : u + t ≤ 64
 
+-- The last of the operands and one more are one operand.
 pub record GluesLast (xs : List Operand) (p : Operand) (ys : List Operand) : Type 0 where
   pub init : List Operand
   pub last : Operand
@@ -54,10 +55,12 @@ between c false false = Some (bit false)
 between c true false = Some c
 between c false true = None
 
+-- The number of a constant.
 abbrev pub number_in : Operand → Option ℕ
 number_in (Named x) = None
 number_in (Constant w n) = Some n
 
+-- The bit of a number at a place is 1.
 abbrev pub bit_test : (n place : ℕ) → Bool
 bit_test n place = n / 2 ^ place % 2 == 1
 

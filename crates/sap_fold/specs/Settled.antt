@@ -12,6 +12,7 @@ use Rattle.sap_fold.specs.Folding.{folded}
 abbrev pub IsSettled : Wire → Type 0
 IsSettled w = folded w.width w.right ≡ w.right
 
+-- The right side is a copy.
 abbrev pub is_copy : Right → Bool
 is_copy (Copy a) = true
 is_copy _ = false

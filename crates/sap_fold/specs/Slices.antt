@@ -22,6 +22,7 @@ sliced (Constant w n) hi lo =
 abbrev pub HasWidth : List Wire → Operand → ℕ → Type 0
 HasWidth ws o u = (memories : Shapes) (sc : Scope) (t : ℕ) → AreWires memories sc ws → IsOperand (readable_after sc ws) t o → t ≡ u
 
+-- Wherever the operands are readable, their widths sum up to u.
 abbrev pub HaveWidth : List Wire → List Operand → ℕ → Type 0
 HaveWidth ws os u = (memories : Shapes) (sc : Scope) (t : ℕ) → AreWires memories sc ws → AreOperands (readable_after sc ws) t os → t ≡ u
 

@@ -20,6 +20,7 @@ abbrev pub number : Bool → ℕ
 number true = 1
 number false = 0
 
+-- The constant of one bit for a truth value.
 abbrev pub bit : Bool → Operand
 bit t = Constant 1 (number t)
 
@@ -53,13 +54,16 @@ tells _ t = false
 abbrev pub only_second : (t : Bool) → (a : Operand) → Bool
 only_second t a = t && is_number a 0
 
+-- A choice whose second number is 0 (for a condition that is false: 1) asks the first alone.
 abbrev pub only_first : (t : Bool) → (b : Operand) → Bool
 only_first t b = not t && is_number b 1
 
+-- The operator is the conjunction.
 abbrev pub is_and : Op2 → Bool
 is_and And = true
 is_and _ = false
 
+-- The operator is the conjunction or the disjunction.
 abbrev pub IsBitwise : Op2 → Type 0
 IsBitwise And = Unit {0}
 IsBitwise Or = Unit {0}

@@ -33,6 +33,7 @@ pub record IsThere (ws : List Wire) (next u : ℕ) (r : Right) (n : Name) (after
   pub wires : after ≡ ws
   pub next_is : next_after ≡ next
 
+-- The right side has its name among the wires already, or a new wire is added for it.
 abbrev pub Adds : (taken : Name → Bool) (ws : List Wire) (next u : ℕ) (r : Right) (n : Name) (after : List Wire) (next_after : ℕ) → Type 0
 Adds taken ws next u r n after next_after = IsThere ws next u r n after next_after ⊎ AddsNew taken ws next u r n after next_after
 

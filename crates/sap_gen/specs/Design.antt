@@ -17,6 +17,7 @@ use Rattle.sap_tree.specs.declared.version.Version.TheVariants.{One}
 abbrev pub register_count : ℕ → ℕ
 register_count n = 2 + n % 60
 
+-- How many states the design of a number has.
 abbrev pub state_count : ℕ → ℕ
 state_count n = 1 + n % 31
 
@@ -24,9 +25,11 @@ state_count n = 1 + n % 31
 abbrev pub input_name : List ℕ
 input_name = codes "d"
 
+-- The name of a register, by its number.
 abbrev pub register_name : ℕ → List ℕ
 register_name i = codes "x" ++ decimal i
 
+-- The name of a state, by its number.
 abbrev pub state_name : ℕ → List ℕ
 state_name j = codes "S" ++ decimal j
 
@@ -58,6 +61,7 @@ assignment r j i = lone (assign (named (register_name i)) (sum ((i + j) % r)))
 abbrev pub transfer : (t j : ℕ) → Command
 transfer t j = lone (go_to nowhere (named (state_name ((j + 1) % t))))
 
+-- The body of a state: an assignment to each register and a transfer.
 abbrev pub body : (r t j : ℕ) → CommandBlock
 body r t j = block (map (assignment r j) (numbers r) ++ transfer t j ∷ [])
 
@@ -73,5 +77,6 @@ design_of_counts r t = record {
   states = states (map (state r t) (numbers t));
 }
 
+-- The design of a number.
 unfoldable pub generated_design : (n : ℕ) → DesignTree
 generated_design n = design_of_counts (register_count n) (state_count n)

@@ -3,6 +3,7 @@ use Rattle.std.specs.Prelude.{ℕ, ◌+◌, ◌*◌, ◌%◌, List, [], ◌∷�
 use Rattle.std.specs.List.{range_with_len}
 use Rattle.sap_meaning.specs.Cycle.{Tagged}
 
+-- How many cycles the run of a number has.
 abbrev pub cycle_count : ℕ → ℕ
 cycle_count n = 4 * n
 

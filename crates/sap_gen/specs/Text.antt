@@ -45,5 +45,6 @@ text_over ls n =
     let run = generated_run ls n in
     summary n (refusal_count run) ++ row_of_cycle ls (named_of ls (generated_design n)) (cycle_count n) run
 
+-- What `gen` prints for a number.
 unfoldable pub generated_text : (n : ℕ) → List ℕ
 generated_text n = text_over diamond n

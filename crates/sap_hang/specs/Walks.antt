@@ -17,6 +17,7 @@ use Rattle.sap_hang.specs.declared.set.Set.{Set}
 use Rattle.sap_hang.specs.declared.standing.Standing.{Standing}
 use Rattle.sap_hang.specs.declared.standing.Walk.{Walk}
 
+-- A test of names.
 abbrev pub Test : Type 0
 Test = List ℕ → Bool
 
@@ -44,18 +45,23 @@ passing es f = map (λ (e : Entity). f e.name.name) es
 abbrev pub touched_at : List Entity → List Decl → Home → List Command → Rows
 touched_at es ds h cs = map (λ (c : Command). passing es (λ x. tree.touches ds h c x)) cs
 
+-- For each point, which entities the command there touches.
 abbrev pub touched_on : List Entity → List Decl → List Point → Rows
 touched_on es ds ps = map (λ (p : Point). passing es (λ x. tree.touches ds p.home p.command x)) ps
 
+-- The walk's store says of each name whether it is declared as a dynamic register or memory.
 abbrev pub Knows : Walk → Type 0
 Knows w = Stands w.names.now (λ x. is_dynamic_store w.declarations.now x) w.stores
 
+-- The entities of the design that is walked.
 abbrev pub entities_in : Standing → List Entity
 entities_in s = s.walk.now.names.now
 
+-- The declarations of the design that is walked.
 abbrev pub declared_in : Standing → List Decl
 declared_in s = s.walk.now.declarations.now
 
+-- Where the walk stands: the state, its kind and its children.
 abbrev pub home_of : Standing → Home
 home_of s = record { name = s.state.now; kind = s.kind.now; children = states_of s.children.now }
 
@@ -69,6 +75,7 @@ pub record Part : Type 0 where
   pub touches : Test
   pub assigns : Test
 
+-- What a command brings: its points, the names that it touches and the names that it assigns.
 abbrev pub command_part : Standing → Command → Part
 command_part s c = record {
   points = points.command_points c;
@@ -76,6 +83,7 @@ command_part s c = record {
   assigns = λ x. tree.assigns c x;
 }
 
+-- What an `else` part brings: its points, the names that it touches and the names that it assigns.
 abbrev pub else_part : Standing → ElseBlock → Part
 else_part s b = record {
   points = points.else_points b;
@@ -83,6 +91,7 @@ else_part s b = record {
   assigns = λ x. tree.else_assigns b x;
 }
 
+-- What the arms of a `case` bring: their points, the names that they touch and the names that they assign.
 abbrev pub arms_part : Standing → Arms → Part
 arms_part s arms = record {
   points = points.arms_points arms;
@@ -90,6 +99,7 @@ arms_part s arms = record {
   assigns = λ x. tree.arms_assign arms x;
 }
 
+-- What a list of commands brings: its points, the names that it touches and the names that it assigns.
 abbrev pub list_part : Standing → CommandList → Part
 list_part s cs = record {
   points = points.list_points cs;

@@ -2,6 +2,7 @@
 use Rattle.std.specs.Prelude.{◌≡◌, ◌+◌, ℕ, Bool, ◌||◌, List, [], ◌∷◌, ◌++◌, take, length, bytes_eq, codes}
 use Rattle.std.specs.List.{list_any}
 
+-- The code is one of those that are known.
 abbrev pub is_one_of : List (List ℕ) → List ℕ → Bool
 is_one_of known code = list_any (bytes_eq code) known
 
@@ -33,6 +34,7 @@ wave_codes = codes "Y1" ∷ codes "Y2" ∷ codes "Y3" ∷ codes "Y4" ∷ codes "
 abbrev pub assembly_codes : List (List ℕ)
 assembly_codes = codes "B1" ∷ codes "B2" ∷ codes "B3" ∷ codes "B4" ∷ []
 
+-- The text is a code that the program prints.
 abbrev pub is_code : List ℕ → Bool
 is_code code = is_one_of design_codes code
     || (is_one_of lattice_codes code || (is_one_of stimulus_codes code

@@ -5,6 +5,7 @@ use Rattle.sap_help.specs.Codes.{is_code, IsTextOf}
 use Rattle.sap_help.specs.declared.asking.Question.{Question}
 use Rattle.sap_help.specs.declared.asking.Question.TheVariants.{Help, Version, Explanation}
 
+-- What `--help`, `--version` and `--explain` ask for.
 pub data Asked : Type 0 where
   help : Asked
   version : Asked
@@ -24,6 +25,7 @@ is_unknown help = false
 is_unknown version = false
 is_unknown (explanation code) = not (is_code code)
 
+-- The question, as the definitions have it.
 abbrev pub asked_of : Question → Asked
 asked_of Help = help
 asked_of Version = version

@@ -15,6 +15,7 @@ abbrev pub coded : (code : ℕ → ℕ) → List Tagged → List ℕ
 coded code [] = []
 coded code (t ∷ ts) = t.number ∷ code t.level ∷ coded code ts
 
+-- A stream with each level replaced by its code.
 abbrev pub coded_stream : (code : ℕ → ℕ) → List (List Tagged) → List (List ℕ)
 coded_stream code stream = map (coded code) stream
 

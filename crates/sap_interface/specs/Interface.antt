@@ -29,6 +29,7 @@ abbrev pub site_ports : (k sites : ℕ) → List Shown
 site_ports k zero = []
 site_ports k (suc n) = (refused_name k, kind.Wire) ∷ (refused_level_name k, kind.Wire) ∷ site_ports (k + 1) n
 
+-- The ports of a module for a design: inputs and registers with their tags, then two wires for each site.
 abbrev pub ports_of : Named → (sites : ℕ) → List Shown
 ports_of d sites =
     pairs_of (is_input (world d)) kind.Input d 0 (world d).entities
@@ -43,6 +44,7 @@ pub record Declared : Type 0 where
   pub registers : Scope
   pub memories : Shapes
 
+-- What a net declares: its ports, inputs, wires, registers and memories with their widths.
 abbrev pub declared_by : Net → Declared
 declared_by n =
     record {
@@ -59,6 +61,7 @@ pub record IsSeatWidth (count u : ℕ) : Type 0 where
   pub holds : count ≤ 2 ^ u
   pub least : (v : ℕ) → 1 ≤ v → count ≤ 2 ^ v → u ≤ v
 
+-- A group's register is declared with the width of its children's numbers.
 abbrev pub HasSeat : (registers : Scope) → (count : ℕ) → Name → Type 0
 HasSeat registers count seat = (u : ℕ) × IsSeatWidth count u × (find registers seat ≡ Some u)
 
@@ -85,6 +88,8 @@ pub record DeclaresInterface (d : Named) (tag sites : ℕ) (declared : Declared)
   pub register_names : AllByRecursion (λ r. IsInterfaceName d sites r.0) declared.registers
   pub memory_names : AllByRecursion (λ m. IsInterfaceName d sites m.0) declared.memories
 
+-- A net has the interface of a design: its name, its declarations, and no name beside the interface's and the helping
+-- wires'.
 pub record HasInterface (d : Named) (tag sites : ℕ) (n : Net) : Type 0 where
   pub module_name : n.module_name ≡ top_name
   pub declares : DeclaresInterface d tag sites (declared_by n)

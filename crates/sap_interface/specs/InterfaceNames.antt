@@ -8,6 +8,7 @@ use Rattle.sap_interface.specs.StandsFor.{Named, name, world}
 abbrev pub holds_numbers : World → ℕ → Bool
 holds_numbers w x = is_input w x || (is_register w x || is_memory w x)
 
+-- A name of the interface of a design: of a value, a tag, a current child, a refusal or a refusal's level.
 pub data IsInterfaceName (d : Named) (sites : ℕ) : List ℕ → Type 0 where
   -- the value and the tag of an input, a register or a memory
   value_of : (x : ℕ) → holds_numbers (world d) x ≡ true → IsInterfaceName d sites (value_name (name d x))

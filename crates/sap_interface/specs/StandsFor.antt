@@ -13,12 +13,15 @@ pub record Named : Type 0 where
   pub names : List (List ℕ)
   pub code : ℕ → ℕ
 
+-- The name of an entity.
 abbrev pub name : Named → ℕ → List ℕ
 name d x = get_or d.names x []
 
+-- The entities and the lattice of a design.
 abbrev pub world : Named → World
 world d = d.program.world
 
+-- The depth of a memory.
 abbrev pub depth : Named → ℕ → ℕ
 depth d m = sized.depth (world d) m
 
@@ -27,6 +30,7 @@ abbrev pub IsRefusedAt : List Refusal → (k t : ℕ) → Type 0
 IsRefusedAt [] k t = ⊥
 IsRefusedAt (r ∷ rs) k t = ((r.site ≡ k) × (r.level ≡ t)) ⊎ IsRefusedAt rs k t
 
+-- There is a refusal at site k.
 abbrev pub IsRefused : List Refusal → (k : ℕ) → Type 0
 IsRefused rs k = (t : ℕ) × IsRefusedAt rs k t
 

@@ -19,6 +19,7 @@ abbrev pub joined_terms : List (Term Name) → Term Name
 joined_terms [] = constant 0 0
 joined_terms (t ∷ ts) = joined_behind t ts
 
+-- The term that a calculation stands for.
 abbrev mutual
   pub term_of : Calc → Term Name
   term_of (calc.Constant w n) = constant w n
@@ -34,12 +35,15 @@ abbrev mutual
   row_terms end_of-Calc = []
   row_terms (more_of-Calc a rest) = term_of a ∷ row_terms rest
 
+-- The action that a stored action stands for.
 abbrev pub action_of : Act → Action
 action_of (act.Set x a) = set x (term_of a)
 action_of (act.Put m i a) = put m (term_of i) (term_of a)
 
+-- The guarded command that a stored one stands for.
 abbrev pub command_of : GuardedCmd → Command
 command_of c = record { when = term_of c.when; act = action_of c.act }
 
+-- The guarded commands that stored ones stand for.
 abbrev pub commands_of : List GuardedCmd → List Command
 commands_of cs = map command_of cs

@@ -31,17 +31,21 @@ TermFine memories readable u (part a hi lo) =
 abbrev pub assignable : Source → Scope
 assignable s = map (λ x. (x.name, x.width)) s.registers ++ map (λ x. (x.name, x.width)) s.wires
 
+-- An action assigns to a register or wire, or writes a memory, with terms of the right widths.
 abbrev pub ActionFine : Source → Action → Type 0
 ActionFine s (set x a) = (u : ℕ) × (find (assignable s) x ≡ Some u) × TermFine (shapes s) (readable s) u a
 ActionFine s (put m i a) =
     (w : ℕ) × (b : ℕ) × IsWidth b × (find (shapes s) m ≡ Some (w, 2 ^ b)) × TermFine (shapes s) (readable s) b i × TermFine (shapes s) (readable s) w a
 
+-- A guarded command's guard has one bit and its action is fine.
 abbrev pub CommandFine : Source → Command → Type 0
 CommandFine s c = TermFine (shapes s) (readable s) 1 c.when × ActionFine s c.act
 
+-- The names of variables.
 abbrev pub variable_names : List Var → List Name
 variable_names xs = map (λ x. x.name) xs
 
+-- The names of memories.
 abbrev pub memory_names : List MemoryVariable → List Name
 memory_names ms = map (λ m. m.name) ms
 
@@ -58,6 +62,7 @@ is_helping _ = false
 abbrev pub IsPlainVar : Var → Type 0
 IsPlainVar x = IsWidth x.width × (x.start ≡ 0)
 
+-- A register's width is a width and its start fits it.
 abbrev pub IsRegisterVar : Var → Type 0
 IsRegisterVar x = IsWidth x.width × (x.start < 2 ^ x.width)
 
@@ -65,6 +70,8 @@ IsRegisterVar x = IsWidth x.width × (x.start < 2 ^ x.width)
 abbrev pub IsMemoryVariable : MemoryVariable → Type 0
 IsMemoryVariable m = IsWidth m.width × ((b : ℕ) × IsDepth m.depth b) × (m.start < 2 ^ m.width)
 
+-- A list of guarded commands is well formed: names are declared once and none is a helping wire's, starts fit, ports
+-- are declared, and each command is fine.
 pub record IsGuarded (s : Source) : Type 0 where
   -- names
   pub named : AllByRecursion (λ x. is_name x ≡ true) (declared s)

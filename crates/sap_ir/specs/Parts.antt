@@ -3,6 +3,7 @@ use Rattle.sap_ir.specs.declared.guarded.GuardedParts.{GuardedParts}
 use Rattle.sap_ir.specs.Calcs.{commands_of}
 use Rattle.sap_ir.specs.Source.{Source}
 
+-- The list of guarded commands that its stored parts stand for.
 abbrev pub parts_source : GuardedParts → Source
 parts_source p =
     record {

@@ -30,6 +30,7 @@ pub record Source : Type 0 where
 abbrev pub readable : Source → Scope
 readable s = map (λ x. (x.name, x.width)) s.inputs ++ map (λ x. (x.name, x.width)) s.registers ++ map (λ x. (x.name, x.width)) s.wires
 
+-- Width and depth of each memory, by its name.
 abbrev pub shapes : Source → Shapes
 shapes s = map (λ m. (m.name, (m.width, m.depth))) s.memories
 

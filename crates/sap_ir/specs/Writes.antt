@@ -24,6 +24,7 @@ pub record AreWithin (s : Source) (v : Valuation) : Type 0 where
   pub registers : AllByRecursion (λ x. v.value x.name < 2 ^ x.width) s.registers
   pub memories : AllByRecursion (λ m. (i : ℕ) → v.cell m.name i < 2 ^ m.width) s.memories
 
+-- The cycle before, if there was one, keeps within the widths.
 abbrev pub WithinBefore : Source → Option Valuation → Type 0
 WithinBefore s None = Unit {0}
 WithinBefore s (Some v) = AreWithin s v

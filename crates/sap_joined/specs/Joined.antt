@@ -38,12 +38,15 @@ pub record Feed : Type 0 where
 abbrev pub value_from : Feed → Name
 value_from f = in_part f.from_part (value_name f.from)
 
+-- The register's tag from which a wire leads.
 abbrev pub tag_from : Feed → Name
 tag_from f = in_part f.from_part (tag_name f.from)
 
+-- The input's number to which a wire leads.
 abbrev pub value_to : Feed → Name
 value_to f = in_part f.to_part (value_name f.to)
 
+-- The input's tag to which a wire leads.
 abbrev pub tag_to : Feed → Name
 tag_to f = in_part f.to_part (tag_name f.to)
 
@@ -51,12 +54,15 @@ tag_to f = in_part f.to_part (tag_name f.to)
 abbrev pub joined_to : Feed → Name
 joined_to f = in_part f.to_part (codes "j_" ++ f.to)
 
+-- The helping wire that tells whether a wire lets through.
 abbrev pub below_to : Feed → Name
 below_to f = in_part f.to_part (codes "b_" ++ f.to)
 
+-- The join of the register's tag and the wire's level.
 abbrev pub join_wire : (tag : ℕ) → Feed → (code : ℕ) → Wire
 join_wire tag f c = assign (joined_to f) tag (Two Or (Named (tag_from f)) (Constant tag c))
 
+-- The register's tag is at or below the wire's level.
 abbrev pub test_wire : (tag : ℕ) → Feed → (code : ℕ) → Wire
 test_wire tag f c = assign (below_to f) 1 (Two Eq (Named (joined_to f)) (Constant tag c))
 
@@ -77,6 +83,7 @@ feeds_by tag f (Some c) =
     ∷ assign (tag_to f) tag (Copy (Constant tag c))
     ∷ []
 
+-- The wires in place of fed inputs.
 abbrev pub feed_wires : (tag : ℕ) → List Feed → List Wire
 feed_wires tag [] = []
 feed_wires tag (f ∷ fs) = feeds_by tag f f.level ++ feed_wires tag fs
@@ -86,12 +93,15 @@ abbrev pub copies_of : {X : Type 0} → (items : Net → List X) → (copy : (Na
 copies_of items copy [] = []
 copies_of items copy (p ∷ ps) = map (copy (in_part p.name)) (items p.net) ++ copies_of items copy ps
 
+-- The ports of all parts, under the parts' names.
 abbrev pub part_ports : List NamedNet → List Port
 part_ports parts = copies_of (λ n. n.ports) copy_port parts
 
+-- The inputs of all parts, under the parts' names.
 abbrev pub part_inputs : List NamedNet → List Input
 part_inputs parts = copies_of (λ n. n.inputs) copy_input parts
 
+-- The registers of all parts, under the parts' names.
 abbrev pub part_registers : List NamedNet → List Register
 part_registers parts = copies_of (λ n. n.registers) copy_register parts
 
@@ -100,6 +110,7 @@ abbrev pub fed_names : List Feed → List Name
 fed_names [] = []
 fed_names (f ∷ fs) = value_to f ∷ tag_to f ∷ fed_names fs
 
+-- A wire leads to the input.
 abbrev pub is_fed : List Feed → Name → Bool
 is_fed feeds x = is_among x (fed_names feeds)
 
@@ -107,12 +118,15 @@ is_fed feeds x = is_among x (fed_names feeds)
 abbrev pub is_free_port : (fed : Name → Bool) → Port → Bool
 is_free_port fed p = is_input p.kind && not (fed p.name)
 
+-- The port is an input to which a wire leads.
 abbrev pub is_fed_port : (fed : Name → Bool) → Port → Bool
 is_fed_port fed p = is_input p.kind && fed p.name
 
+-- The port shows a register.
 abbrev pub is_register_port : Port → Bool
 is_register_port p = is_register p.kind
 
+-- The port shows a wire.
 abbrev pub is_wire_port : Port → Bool
 is_wire_port p = not (is_input p.kind) && not (is_register p.kind)
 
@@ -129,12 +143,15 @@ ports_by fed ports =
     ++ filter is_wire_port ports
     ++ map as_wire (filter (is_fed_port fed) ports)
 
+-- The ports of the system: those of the parts without the fed inputs.
 abbrev pub joined_ports : List NamedNet → List Feed → List Port
 joined_ports parts feeds = ports_by (is_fed feeds) (part_ports parts)
 
+-- No wire leads to the input.
 abbrev pub is_free_input : (fed : Name → Bool) → Input → Bool
 is_free_input fed i = not (fed i.name)
 
+-- The inputs to which no wire leads.
 abbrev pub free_inputs : List NamedNet → List Feed → List Input
 free_inputs parts feeds = filter (is_free_input (is_fed feeds)) (part_inputs parts)
 
@@ -142,12 +159,15 @@ free_inputs parts feeds = filter (is_free_input (is_fed feeds)) (part_inputs par
 abbrev pub port_names : List Port → List Name
 port_names ports = map (λ (p : Port). p.name) ports
 
+-- No port shows the name.
 abbrev pub is_hidden : (shown : Name → Bool) → Name → Bool
 is_hidden shown x = not (shown x)
 
+-- A port shows the register.
 abbrev pub is_shown_register : (shown : Name → Bool) → Register → Bool
 is_shown_register shown r = shown r.name
 
+-- No port shows the register.
 abbrev pub is_hidden_register : (shown : Name → Bool) → Register → Bool
 is_hidden_register shown r = not (shown r.name)
 

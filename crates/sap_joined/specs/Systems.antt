@@ -15,6 +15,7 @@ abbrev pub nets_from : (nets : ℕ → Net) → (i : ℕ) → List Part → List
 nets_from nets i [] = []
 nets_from nets i (p ∷ ps) = record { name = p.name; net = nets i } ∷ nets_from nets (suc i) ps
 
+-- The netlists of a system's parts with their names.
 abbrev pub named_nets : NamedSystem → (nets : ℕ → Net) → List NamedNet
 named_nets s nets = nets_from nets 0 s.parts
 
@@ -32,6 +33,7 @@ feed_of s w =
       level = option_map (code_of s.order) w.level;
     }
 
+-- The wires between a system's parts, by names.
 abbrev pub feeds_of : NamedSystem → List Feed
 feeds_of s = map (feed_of s) s.wires
 

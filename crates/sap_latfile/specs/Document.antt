@@ -27,6 +27,7 @@ abbrev pub pair_in : Items → Option Pair
 pair_in (item (string lower) (item (string upper) no_items)) = Some (record { lower = lower; upper = upper })
 pair_in _ = None
 
+-- The pair that a value lists, if it is a list of two strings.
 abbrev pub pair_of : Data → Option Pair
 pair_of value = option_and_then pair_in (as_array value)
 

@@ -7,6 +7,7 @@ use Rattle.sap_lattice.specs.declared.pair.Pair.{Pair}
 abbrev pub level_names : List (List ℕ)
 level_names = codes "low" ∷ codes "a" ∷ codes "b" ∷ codes "high" ∷ []
 
+-- A pair of a lattice file: the first level is below the second.
 abbrev pub pair : (lower upper : List ℕ) → Pair
 pair lower upper = record { lower = lower; upper = upper }
 

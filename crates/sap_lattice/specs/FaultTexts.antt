@@ -4,6 +4,7 @@ use Rattle.std.specs.Fmt.{decimal}
 use Rattle.sap_lattice.specs.declared.fault.LatFault.{LatFault}
 use Rattle.sap_lattice.specs.declared.fault.LatFault.TheVariants.{Count, Bad, UnknownPair, Cycle, NoJoin, NoLeast, Memory}
 
+-- The text of a fault of names and pairs.
 abbrev pub rule_text : LatFault → List ℕ
 rule_text (Count n) = codes "L3 " ++ decimal n
 rule_text (Bad position) = codes "L4 " ++ decimal position

@@ -8,6 +8,7 @@ use Rattle.sap_lattice.specs.Lawful.{IsLattice}
 abbrev pub table_of : List ℕ → List (List Bool)
 table_of codes = map (λ c. map (λ d. bit_or c d == d) codes) codes
 
+-- The levels with these names, of which one is below another as their codes say.
 abbrev pub levels_of : List (List ℕ) → List ℕ → Levels
 levels_of names codes = record { names = names; table = table_of codes }
 

@@ -14,6 +14,7 @@ pub record IsNarrow (o : Order) : Type 0 where
   pub some : 0 < width_of o
   pub few : width_of o < o.count
 
+-- What each lattice that was built has: sound names, the laws of a lattice, and codes that tell levels apart.
 pub record IsLattice (l : Levels) : Type 0 where
   pub names : KeepsNames l.names
   pub laws : Laws (order_of l)

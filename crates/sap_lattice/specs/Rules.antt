@@ -48,22 +48,27 @@ pub record KeepsCount (names : List (List ℕ)) : Type 0 where
   pub at_least_two : 2 ≤ length names
   pub not_too_many : length names ≤ 64
 
+-- The number of names is one that a lattice may have, and each name is one.
 pub record KeepsNames (names : List (List ℕ)) : Type 0 where
   pub before : KeepsCount names
   pub named : (k : ℕ) → ¬ BadLevel names k
 
+-- The rules so far hold, and each pair has known levels.
 pub record KeepsPairs (names : List (List ℕ)) (pairs : List Pair) : Type 0 where
   pub before : KeepsNames names
   pub known : (k : ℕ) → ¬ BadPair names pairs k
 
+-- The rules so far hold, and no two levels are below each other.
 pub record KeepsApart (names : List (List ℕ)) (pairs : List Pair) : Type 0 where
   pub before : KeepsPairs names pairs
   pub no_cycle : (x y : ℕ) → ¬ IsCycle names pairs x y
 
+-- The rules so far hold, and each two levels have a join.
 pub record KeepsJoins (names : List (List ℕ)) (pairs : List Pair) : Type 0 where
   pub before : KeepsApart names pairs
   pub joined : (x y : ℕ) → ¬ HasNoJoin names pairs x y
 
+-- All rules hold: those so far, and there is a bottom.
 pub record KeepsAll (names : List (List ℕ)) (pairs : List Pair) : Type 0 where
   pub before : KeepsJoins names pairs
   pub least : ¬ HasNoLeast names pairs

@@ -6,6 +6,7 @@ use Rattle.sap_lex.specs.declared.limit.Limit.TheVariants as limit
 use Rattle.sap_lex.specs.declared.fault.ReadFault.{ReadFault}
 use Rattle.sap_lex.specs.declared.fault.ReadFault.TheVariants.{E1, E2, E18, Memory}
 
+-- The word by which a fault names a limit.
 abbrev pub limit_text : Limit → List ℕ
 limit_text limit.Bytes = codes "bytes"
 limit_text limit.Name = codes "name"
@@ -19,6 +20,7 @@ limit_text limit.Blocks = codes "blocks"
 limit_text limit.Brackets = codes "brackets"
 limit_text limit.Expression = codes "expression"
 
+-- The text of a fault of a design's text.
 abbrev pub read_text : ReadFault → List ℕ
 read_text (E1 place) = codes "E1 " ++ place_text place
 read_text (E2 place) = codes "E2 " ++ place_text place

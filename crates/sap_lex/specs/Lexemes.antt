@@ -16,10 +16,12 @@ use Rattle.sap_tree.specs.declared.word.Word.{Word}
 
 -- words and names
 
+-- The token of a keyword if there is one, else that of a name.
 abbrev pub word_or_name : Option Word → List ℕ → ℕ → Lexeme
 word_or_name (Some word) name len = Token (k.Word word) len
 word_or_name None name len = Token (k.Name name) len
 
+-- The word or name at the front of a text.
 unfoldable pub name_at : List ℕ → Lexeme
 name_at bytes = let name = take (run c.Inner bytes) bytes in word_or_name (word_of name) name (run c.Inner bytes)
 
@@ -29,11 +31,13 @@ name_at bytes = let name = take (run c.Inner bytes) bytes in word_or_name (word_
 abbrev pub clings : ℕ → Bool
 clings b = is_inner b || b == byte "'"
 
+-- A number's token, unless it is too large or a letter or digit clings to it.
 abbrev pub number_lexeme : Option ℕ → Bool → ℕ → Lexeme
 number_lexeme (Some n) false len = Token (k.Number n) len
 number_lexeme (Some n) true len = Bad
 number_lexeme None clinging len = Bad
 
+-- A sized number's token, unless a part of it is too large or something clings to it.
 abbrev pub sized_lexeme : Option ℕ → Option ℕ → Bool → ℕ → Lexeme
 sized_lexeme (Some width) (Some n) false len = Token (k.Sized width n) len
 sized_lexeme (Some width) (Some n) true len = Bad
@@ -48,12 +52,14 @@ sized_in class base width bytes =
     else sized_lexeme (number_of 10 (take width bytes)) (number_of base (take digits (drop (width + 2) bytes)))
     (clings (slice_index bytes (width + 2 + digits))) (width + 2 + digits)
 
+-- The sized number at the front of a text, after the digits of its width.
 unfoldable pub sized_at : (width : ℕ) → List ℕ → Lexeme
 sized_at width bytes =
     if slice_index bytes (width + 1) == byte "d" then sized_in c.Decimal 10 width bytes
     else (if slice_index bytes (width + 1) == byte "h" then sized_in c.Hexadecimal 16 width bytes
     else Bad)
 
+-- The number, with or without a width, at the front of a text.
 unfoldable pub number_at : List ℕ → Lexeme
 number_at bytes =
     let digits = run c.Decimal bytes in
@@ -62,13 +68,16 @@ number_at bytes =
 
 -- signs of two bytes, or of one
 
+-- The token of a sign if there is one, else another.
 abbrev pub sign_or : Option Sign → ℕ → Lexeme → Lexeme
 sign_or (Some sign) len other = Token (k.Sign sign) len
 sign_or None len other = other
 
+-- The sign at the front of a text: one of two bytes before one of one byte.
 unfoldable pub sign_at : List ℕ → Lexeme
 sign_at bytes = sign_or (sign_of (take 2 bytes)) (length (take 2 bytes)) (sign_or (sign_of (take 1 bytes)) (length (take 1 bytes)) Bad)
 
+-- What is at the front of a text: a blank or a comment, a token, or a byte that begins none.
 unfoldable pub lexeme_of : List ℕ → Lexeme
 lexeme_of bytes =
     let first = slice_index bytes 0 in

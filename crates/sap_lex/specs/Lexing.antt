@@ -22,9 +22,11 @@ use Rattle.sap_lex.specs.declared.token.Token.{Token}
 
 -- tokens
 
+-- A blank or a comment is at a place of a text.
 abbrev pub IsBlankAt : List ℕ → ℕ → ℕ → Type 0
 IsBlankAt text n len = lexeme_of (drop n text) ≡ l.Blank len
 
+-- This token is at a place of a text, with its length.
 pub record StandsAt (text : List ℕ) (n : ℕ) (token : Token) (len : ℕ) : Type 0 where
   pub lexeme : lexeme_of (drop n text) ≡ l.Token token.kind len
   pub place : token.place ≡ place_at text n
@@ -38,41 +40,52 @@ Reached text = walk.Reached (IsBlankAt text) (StandsAt text)
 -- Where the first token of a text is the name `sapper`, it is a word, and so is a second one that is the number 2, spelled by one digit. Behind them
 -- the keywords of the second version are words.
 
+-- The first token of a design of version 2 is the name `sapper`.
 abbrev pub is_sapper : Kind → Bool
 is_sapper (k.Name name) = bytes_eq name (word_text w.Sapper)
 is_sapper kind = false
 
+-- A token is the number 2.
 abbrev pub is_number_two : Kind → Bool
 is_number_two (k.Number n) = n == 2
 is_number_two kind = false
 
+-- A token is the digit `2` alone.
 abbrev pub is_two : Token → Bool
 is_two t = is_number_two t.kind && t.to == t.from + 1
 
+-- A token is a keyword if there is one, else what it was.
 abbrev pub kind_by : Option Word → Kind → Kind
 kind_by None kind = kind
 kind_by (Some word) kind = k.Word word
 
+-- The keyword of version 2 that a name is, if it is one.
 abbrev pub later_word_in : Kind → Option Word
 later_word_in (k.Name name) = later_word_of name
 later_word_in kind = None
 
+-- What a token is in version 2.
 abbrev pub later_kind : Kind → Kind
 later_kind kind = kind_by (later_word_in kind) kind
 
+-- A token of another kind at the same place.
 abbrev pub with_kind : Token → Kind → Token
 with_kind t kind = record t { kind = kind }
 
+-- A token as version 2 takes it.
 abbrev pub later_token : Token → Token
 later_token t = with_kind t (later_kind t.kind)
 
+-- The second token of a design of version 2.
 abbrev pub second_token : Token → Token
 second_token t = if is_two t then with_kind t (k.Word w.Two) else later_token t
 
+-- The tokens after the word `sapper`, as version 2 takes them.
 abbrev pub behind_sapper : List Token → List Token
 behind_sapper [] = []
 behind_sapper (t ∷ ts) = second_token t ∷ map later_token ts
 
+-- The tokens of a design, as its version takes them.
 unfoldable pub keyed : List Token → List Token
 keyed [] = []
 keyed (t ∷ ts) = if is_sapper t.kind then with_kind t (k.Word w.Sapper) ∷ behind_sapper ts else t ∷ ts
@@ -89,14 +102,17 @@ pub record AreTokens (text : List ℕ) (tokens : List Token) : Type 0 where
 
 -- the version of a text, by its tokens
 
+-- The version of a design that begins with this keyword.
 abbrev pub version_of_word : Word → Version
 version_of_word w.Sapper = v.Two
 version_of_word word = v.One
 
+-- The version of a design that begins with this token.
 abbrev pub version_of_kind : Kind → Version
 version_of_kind (k.Word word) = version_of_word word
 version_of_kind kind = v.One
 
+-- The version of a design: 2 if its first token is the word `sapper`, else 1.
 unfoldable pub version_of : List Token → Version
 version_of [] = v.One
 version_of (t ∷ ts) = version_of_kind t.kind
@@ -110,6 +126,7 @@ pub record IsBadAt (text : List ℕ) (place : Place) : Type 0 where
   pub bad : lexeme_of (drop at text) ≡ l.Bad
   pub there : place ≡ place_at text at
 
+-- A fault of the lexer: only E1 is one, at the first byte that begins no token.
 abbrev pub IsLexFault : List ℕ → ReadFault → Type 0
 IsLexFault text (f.E1 place) = IsBadAt text place
 IsLexFault text (f.E2 place) = ⊥

@@ -21,6 +21,7 @@ pub record SpellsNumber (class : Class) (base n : ℕ) (text : List ℕ) : Type 
   pub value : digits_value base text ≡ n
   pub fits : n < 2 ^ 64
 
+-- A text spells a sized number in decimal or in hexadecimal digits.
 pub data SpellsSized (width n : ℕ) (text : List ℕ) : Type 0 where
   decimal : (front digits : List ℕ) → text ≡ front ++ (codes "'d" ++ digits) → SpellsNumber c.Decimal 10 width front → SpellsNumber c.Decimal 10 n digits
       → SpellsSized width n text
@@ -35,6 +36,7 @@ is_later w.Sapper = true
 is_later w.Two = true
 is_later word = false
 
+-- This is a keyword of the version.
 abbrev pub is_of : Version → Word → Bool
 is_of version word = is_second version || not (is_later word)
 
@@ -50,6 +52,7 @@ Spells version (k.Sized width n) text = SpellsSized width n text
 abbrev pub text_of : List ℕ → Token → List ℕ
 text_of source token = take (token.to - token.from) (drop token.from source)
 
+-- A token's place in the text spells it.
 abbrev pub HasText : Version → List ℕ → Token → Type 0
 HasText version source token = Spells version token.kind (text_of source token)
 

@@ -40,10 +40,12 @@ sign_text s.Tilde = codes "~"
 abbrev pub pair_signs : List Sign
 pair_signs = s.Becomes ∷ s.Equal ∷ s.NotEqual ∷ s.LessOrEqual ∷ s.ShiftLeft ∷ s.ShiftRight ∷ []
 
+-- The signs of one byte.
 abbrev pub single_signs : List Sign
 single_signs = s.OpenParen ∷ s.CloseParen ∷ s.OpenBrace ∷ s.CloseBrace ∷ s.OpenBracket ∷ s.CloseBracket ∷ s.Colon ∷ s.Semicolon ∷ s.Comma
     ∷ s.Question ∷ s.Is ∷ s.Less ∷ s.Plus ∷ s.Minus ∷ s.Star ∷ s.Ampersand ∷ s.Bar ∷ s.Caret ∷ s.Tilde ∷ []
 
+-- All signs.
 abbrev pub signs : List Sign
 signs = pair_signs ++ single_signs
 
@@ -59,6 +61,7 @@ sign_of text = sign_among signs text
 unfoldable pub pair_sign : ℕ → ℕ → Option Sign
 pair_sign first second = sign_among pair_signs (first ∷ second ∷ [])
 
+-- The sign that a byte is, if it is one.
 unfoldable pub single_sign : ℕ → Option Sign
 single_sign byte = sign_among single_signs (byte ∷ [])
 
@@ -74,9 +77,11 @@ word_of text = word_among first_words text
 abbrev pub declaration_words : List Word
 declaration_words = w.Input ∷ w.Reg ∷ w.Mem ∷ w.State ∷ w.Dynamic ∷ w.Enforced ∷ w.Under ∷ []
 
+-- The keywords of commands in version 1.
 abbrev pub command_words : List Word
 command_words = w.If ∷ w.Else ∷ w.Goto ∷ w.Fall ∷ w.SetTag ∷ w.Otherwise ∷ []
 
+-- The keywords of expressions and tag expressions.
 abbrev pub expression_words : List Word
 expression_words = w.Tag ∷ w.Level ∷ w.Join ∷ w.Zext ∷ []
 
@@ -84,9 +89,11 @@ expression_words = w.Tag ∷ w.Level ∷ w.Join ∷ w.Zext ∷ []
 unfoldable pub declaration_word : List ℕ → Option Word
 declaration_word text = word_among declaration_words text
 
+-- The keyword of commands that a text is, if it is one.
 unfoldable pub command_word : List ℕ → Option Word
 command_word text = word_among command_words text
 
+-- The keyword of expressions that a text is, if it is one.
 unfoldable pub expression_word : List ℕ → Option Word
 expression_word text = word_among expression_words text
 

@@ -12,6 +12,7 @@ use Rattle.sap_link.specs.Agree.{CompositesAgree}
 abbrev pub two_parts : System
 two_parts = record { order = two_levels; parts = enforced_states ∷ enforced_states ∷ []; wires = [] }
 
+-- The entities of the part that is compared.
 abbrev pub part_world : World
 part_world = enforced_states.world
 
@@ -32,9 +33,11 @@ level_of_t t = stay (put_level part_world (own 3) t (first part_world))
 abbrev pub child_is : ℕ → After
 child_is n = stay (put_child 4 n (first part_world))
 
+-- Two cycles of a system whose second parts are these agree at the lowest level.
 abbrev pub AgreeAtLow : (one other : After) → Type 0
 AgreeAtLow one other = CompositesAgree two_parts 0 (with_second one) (with_second other)
 
+-- Cycles that differ in high things alone agree; such as differ in a low register, tag, refusal or current child don't.
 pub record ComparedComposites : Type 0 where
   -- They differ in x's number, at high in both, and in what is refused at high.
   pub high_things : AgreeAtLow (x_is 5 1 (refused_at 1 1 ∷ [])) (x_is 6 1 [])

@@ -15,6 +15,7 @@ CompositeState = ℕ → Store
 abbrev pub CompositeAfter : Type 0
 CompositeAfter = ℕ → After
 
+-- The stores of all parts after a cycle.
 abbrev pub states_of : CompositeAfter → CompositeState
 states_of a i = (a i).store
 
@@ -28,6 +29,7 @@ abbrev pub let_through : Order → Option ℕ → (v : Tagged) → Tagged
 let_through o None v = v
 let_through o (Some t) v = record { number = if o.le v.level t then v.number else 0; level = t }
 
+-- What a wire carries: the register's number and level, let through where the level is at or below the wire's.
 abbrev pub carried : System → CompositeState → Wire → Tagged
 carried y states w = let_through y.order w.level (content_at y states w.from)
 
@@ -40,6 +42,7 @@ abbrev pub received_by : System → CompositeState → (inputs : List Tagged) �
 received_by y states inputs e (Some w) = carried y states w
 received_by y states inputs e None = given_to y inputs e
 
+-- What an input receives: what its wire carries, or the system's own input.
 abbrev pub received : System → CompositeState → (inputs : List Tagged) → Endpoint → Tagged
 received y states inputs e = received_by y states inputs e (feeding y.wires e)
 
@@ -56,6 +59,7 @@ abbrev pub composite_run_from : System → CompositeState → List (List Tagged)
 composite_run_from y states [] = []
 composite_run_from y states (inputs ∷ rest) = let a = composite_cycle y inputs states in a ∷ composite_run_from y (states_of a) rest
 
+-- The stores of all parts at power-up.
 abbrev pub first_states : System → CompositeState
 first_states y i = first (world y i)
 

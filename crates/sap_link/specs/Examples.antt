@@ -50,6 +50,7 @@ abbrev pub registers_from : (i : ℕ) → List DesignTree → CompositeAfter →
 registers_from i [] a = []
 registers_from i (d ∷ ds) a = (shown_of_part 1 (a i)).0 ∷ registers_from (suc i) ds a
 
+-- The registers of a composite run, cycle by cycle.
 abbrev pub shows : List DesignTree → List Wire → List (List Tagged) → List (List Tagged)
 shows designs wires stream = map (registers_from 0 designs) (composite_run (linked low_high designs wires) stream)
 

@@ -9,9 +9,11 @@ pub record Endpoint : Type 0 where
   pub part : ℕ
   pub entity : ℕ
 
+-- An entity of a part.
 abbrev pub endpoint : (part entity : ℕ) → Endpoint
 endpoint i x = record { part = i; entity = x }
 
+-- The two endpoints are the same.
 abbrev pub same_endpoint : Endpoint → Endpoint → Bool
 same_endpoint a b = nat_eq a.part b.part && nat_eq a.entity b.entity
 
@@ -31,9 +33,11 @@ pub record System : Type 0 where
 abbrev pub no_part : Order → Program
 no_part o = record { world = record { order = o; entities = []; children = [] }; states = no_node; hang = [] }
 
+-- The program of a part.
 abbrev pub part : System → ℕ → Program
 part y i = get_or y.parts i (no_part y.order)
 
+-- The entities of a part.
 abbrev pub world : System → ℕ → World
 world y i = (part y i).world
 
@@ -41,6 +45,7 @@ world y i = (part y i).world
 abbrev pub IsPart : System → ℕ → Type 0
 IsPart y i = i < length y.parts
 
+-- The width of an endpoint.
 abbrev pub width_at : System → Endpoint → ℕ
 width_at y e = width (world y e.part) e.entity
 
@@ -48,6 +53,7 @@ width_at y e = width (world y e.part) e.entity
 abbrev pub feeding : List Wire → Endpoint → Option Wire
 feeding wires e = find (λ w. same_endpoint w.to e) wires
 
+-- A wire leads to the endpoint.
 abbrev pub is_fed : List Wire → Endpoint → Bool
 is_fed wires e = is_some (feeding wires e)
 
@@ -56,6 +62,7 @@ abbrev pub inputs_from : (x : ℕ) → List Entity → List ℕ
 inputs_from x [] = []
 inputs_from x (e ∷ es) = if kind_is_input e.kind then x ∷ inputs_from (suc x) es else inputs_from (suc x) es
 
+-- The inputs of a part.
 abbrev pub inputs_in : World → List ℕ
 inputs_in w = inputs_from 0 w.entities
 

@@ -20,12 +20,15 @@ pub record NamedDesign : Type 0 where
   pub name : Name
   pub design : DesignTree
 
+-- The part of a named design.
 abbrev pub part_of : Levels → NamedDesign → Part
 part_of ls d = record { name = d.name; design = named_of ls d.design; sites = site_count_of d.design }
 
+-- The trees of named designs.
 abbrev pub trees : List NamedDesign → List DesignTree
 trees ds = map (λ (d : NamedDesign). d.design) ds
 
+-- The system of named designs and the wires between them.
 abbrev pub named_system : Levels → List NamedDesign → List Wire → NamedSystem
 named_system ls ds wires = record { order = order_of ls; parts = map (part_of ls) ds; wires = wires }
 

@@ -39,9 +39,11 @@ PortsInOrder =
     ∷ (codes "l_q_1", kind.Wire)
     ∷ []
 
+-- A register that starts with 0 and takes a name.
 abbrev pub register : Name → (width : ℕ) → (next : Name) → Register
 register x u next = record { name = x; width = u; start = 0; next = Named next }
 
+-- A port of a name and a kind.
 abbrev pub port : Name → PortKind → Port
 port x k = record { name = x; kind = k }
 
@@ -77,6 +79,7 @@ simple_net input output next wires =
       memories = [];
     }
 
+-- The netlists of the example's two parts.
 abbrev pub simple_nets : ℕ → Net
 simple_nets zero = simple_net (codes "a") (codes "x") (codes "n0") (assign (codes "n0") 8 (Two Add (Named (codes "v_a")) (Constant 8 1)) ∷ [])
 simple_nets (suc i) = simple_net (codes "b") (codes "y") (codes "v_b") []

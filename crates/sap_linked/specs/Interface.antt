@@ -29,11 +29,13 @@ input_ports wires i [] = []
 input_ports wires i (p ∷ ps) =
     ports_in p (pairs_of (is_free wires p i) kind.Input p.design 0 (world p.design).entities) ++ input_ports wires (suc i) ps
 
+-- The ports of all parts' registers.
 abbrev pub register_ports : List Part → List Shown
 register_ports [] = []
 register_ports (p ∷ ps) =
     ports_in p (pairs_of (is_register (world p.design)) kind.Register p.design 0 (world p.design).entities) ++ register_ports ps
 
+-- The ports of all parts' refusals.
 abbrev pub refusal_ports : List Part → List Shown
 refusal_ports [] = []
 refusal_ports (p ∷ ps) = ports_in p (site_ports 1 p.sites) ++ refusal_ports ps
@@ -79,6 +81,7 @@ pub record DeclaresSystem (s : NamedSystem) (n : Net) : Type 0 where
   pub register_names : AllByRecursion (λ r. IsPartName s r.name) n.registers
   pub memory_names : AllByRecursion (λ m. IsPartName s m.name) n.memories
 
+-- A net has the interface of a system: its declarations, and no name beside the interface's and the helping wires'.
 pub record HasLinkedInterface (s : NamedSystem) (n : Net) : Type 0 where
   pub declares : DeclaresSystem s n
   -- it declares nothing else but helping wires

@@ -26,9 +26,11 @@ use Rattle.sap_linked.specs.Interface.{fed_inputs, linked_ports}
 abbrev pub joined_at : NamedSystem → Endpoint → Name
 joined_at s e = let p = part_at s e.part in in_part p.name (codes "j_" ++ name p.design e.entity)
 
+-- The helping wire that tells whether the wire to an endpoint lets through.
 abbrev pub below_at : NamedSystem → Endpoint → Name
 below_at s e = let p = part_at s e.part in in_part p.name (codes "b_" ++ name p.design e.entity)
 
+-- A wire with its right side.
 abbrev pub assign : Name → (width : ℕ) → Right → Wire
 assign x u right = record { name = x; width = u; right = right }
 
@@ -48,6 +50,7 @@ feeds_through s w (Some l) =
     ∷ assign (tag_at s w.to) u (Copy code)
     ∷ []
 
+-- The wires in place of fed inputs.
 abbrev pub feeds : NamedSystem → List SystemWire → List Wire
 feeds s [] = []
 feeds s (w ∷ ws) = feeds_through s w w.level ++ feeds s ws
@@ -61,6 +64,7 @@ copies_of items copy i (p ∷ ps) = map (copy (in_part p.name)) (items i) ++ cop
 abbrev pub held_ports : NamedSystem → List Shown
 held_ports s = linked_ports s ++ fed_inputs s.wires 0 s.parts
 
+-- The names of the ports.
 abbrev pub shown_names : NamedSystem → List Name
 shown_names s = map (λ (port : Shown). port.0) (held_ports s)
 

@@ -27,6 +27,7 @@ pub record NamedSystem : Type 0 where
 abbrev pub no_part : Order → Part
 no_part o = record { name = []; design = record { program = no_program o; names = []; code = code_of o }; sites = 0 }
 
+-- A part by its number.
 abbrev pub part_at : NamedSystem → ℕ → Part
 part_at s i = get_or s.parts i (no_part s.order)
 
@@ -42,6 +43,7 @@ in_part part x = take 2 x ++ (part ++ (codes "_" ++ drop 2 x))
 abbrev pub value_at : NamedSystem → Endpoint → Name
 value_at s e = let p = part_at s e.part in in_part p.name (value_name (name p.design e.entity))
 
+-- The name of an endpoint's tag.
 abbrev pub tag_at : NamedSystem → Endpoint → Name
 tag_at s e = let p = part_at s e.part in in_part p.name (tag_name (name p.design e.entity))
 

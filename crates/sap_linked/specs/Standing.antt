@@ -34,6 +34,7 @@ pub record RunsStand (s : NamedSystem) (n : Net) : Type 0 where
       → (vs : List Valuation) → IsRun n (coded_stream (code_of s.order) stream) vs
       → (i : ℕ) → i < length s.parts → PartStands s stream (map (observed n) vs) i
 
+-- A net stands for a system: it has its interface, and its runs are the composite runs.
 pub record NetStandsForSystem (s : NamedSystem) (n : Net) : Type 0 where
   pub interface : HasLinkedInterface s n
   pub runs : RunsStand s n

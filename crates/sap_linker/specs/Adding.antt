@@ -24,9 +24,11 @@ under_names [] added = []
 under_names (l ∷ ls) [] = []
 under_names (l ∷ ls) (p ∷ ps) = (record { name = l.name; design = tree_in p.checked.now }, p.netlist.now) ∷ under_names ls ps
 
+-- The designs that have been added, under their names.
 abbrev pub added_designs : Adding → List NamedDesign
 added_designs a = map (λ (p : NamedDesign × Net). p.0) (under_names a.system.parts a.parts)
 
+-- The netlists of the designs that have been added.
 abbrev pub added_nets : Adding → List Net
 added_nets a = map (λ (p : NamedDesign × Net). p.1) (under_names a.system.parts a.parts)
 

@@ -13,15 +13,19 @@ use Rattle.sap_linked.specs.Designs.{NamedDesign, IsNetOfDesign}
 use Rattle.sap_joined.specs.Joined.{NamedNet}
 use Rattle.sap_linker.specs.declared.parts.LinkedPart.{LinkedPart}
 
+-- The name and the tree of a part.
 abbrev pub named_design : LinkedPart → NamedDesign
 named_design p = record { name = p.name.now; design = tree_in p.checked.now }
 
+-- The names and trees of parts.
 abbrev pub designs_of : List LinkedPart → List NamedDesign
 designs_of parts = map named_design parts
 
+-- The names of designs.
 abbrev pub design_names : List NamedDesign → List (List ℕ)
 design_names ds = map (λ (d : NamedDesign). d.name) ds
 
+-- The name and the netlist of a part.
 abbrev pub named_net : LinkedPart → NamedNet
 named_net p = record { name = p.name.now; net = p.netlist.now }
 
@@ -42,9 +46,11 @@ pub record HasNetlist (ls : Levels) (d : DesignTree) (n : Net) : Type 0 where
   pub formed : WellFormed ls d
   pub net : IsNetOfDesign ls d n
 
+-- The part's netlist is that of its design over these levels.
 abbrev pub IsOver : Levels → LinkedPart → Type 0
 IsOver ls p = HasNetlist ls (tree_in p.checked.now) p.netlist.now
 
+-- Each part's netlist is that of its design over these levels.
 abbrev pub AreOver : Levels → List LinkedPart → Type 0
 AreOver ls parts = AllByRecursion (IsOver ls) parts
 
@@ -52,9 +58,11 @@ AreOver ls parts = AllByRecursion (IsOver ls) parts
 abbrev pub no_net : Net
 no_net = record { module_name = []; names = []; ports = []; inputs = []; wires = []; registers = []; memories = [] }
 
+-- The netlists of parts.
 abbrev pub nets_of : List LinkedPart → List Net
 nets_of parts = map (λ (p : LinkedPart). p.netlist.now) parts
 
+-- The netlist of a part by its number.
 abbrev pub net_at : List LinkedPart → ℕ → Net
 net_at parts i = get_or (nets_of parts) i no_net
 
@@ -64,9 +72,11 @@ pub record IsThere (ds : List NamedDesign) (e : Endpoint) : Type 0 where
   pub is_design : slice_get ds e.part ≡ Some design
   pub entity : e.entity < length (entities_of design.design)
 
+-- Both ends of a wire are there.
 pub record Meets (ds : List NamedDesign) (w : Wire) : Type 0 where
   pub from : IsThere ds w.from
   pub to : IsThere ds w.to
 
+-- Both ends of each wire are there.
 abbrev pub WiresMeet : List NamedDesign → List Wire → Type 0
 WiresMeet ds wires = AllByRecursion (Meets ds) wires

@@ -19,6 +19,7 @@ use Rattle.sap_linked_small.specs.Laws.{IsSmall}
 use Rattle.sap_wiring.specs.Wiring.{PartsNamed, names_in}
 use Rattle.sap_linker.specs.Modules.{IsModuleOfSystem}
 
+-- The names of a system's parts.
 abbrev pub names_of : NamedSystem → List (List ℕ)
 names_of s = map (λ (p : SystemPart). p.name) s.parts
 

@@ -16,24 +16,31 @@ use Rattle.sap_tree.specs.declared.version.Version.TheVariants.{One}
 abbrev pub input : (name : List ℕ) → (width : ℕ) → Decl
 input name u = Input nowhere (named name) (numeral u)
 
+-- A register enforced at a level.
 abbrev pub register : (name : List ℕ) → (width : ℕ) → (level : List ℕ) → Decl
 register name u l = Register nowhere (named name) (numeral u) (enforced l) None
 
+-- A register enforced at a level, with a start number.
 abbrev pub register_from : (name : List ℕ) → (width : ℕ) → (level : List ℕ) → (initial : ℕ) → Decl
 register_from name u l x = Register nowhere (named name) (numeral u) (enforced l) (Some (numeral x))
 
+-- A memory enforced at a level.
 abbrev pub memory : (name : List ℕ) → (width depth : ℕ) → (level : List ℕ) → Decl
 memory name u d l = Memory nowhere (named name) (numeral u) (numeral d) (enforced l)
 
+-- The lowest level's name.
 abbrev pub low : List ℕ
 low = codes "low"
 
+-- The first user's level's name.
 abbrev pub a : List ℕ
 a = codes "a"
 
+-- The second user's level's name.
 abbrev pub b : List ℕ
 b = codes "b"
 
+-- The inputs, registers and memories of the machine.
 abbrev pub declarations : List Decl
 declarations =
     input (codes "wa") 12 ∷ input (codes "wb") 12
@@ -46,27 +53,35 @@ declarations =
 abbrev pub read : List ℕ → Expression
 read name = make.read name
 
+-- A sum.
 abbrev pub plus : Expression → Expression → Expression
 plus x y = binary_of no_spot Add x y
 
+-- A difference.
 abbrev pub minus : Expression → Expression → Expression
 minus x y = binary_of no_spot Sub x y
 
+-- A comparison with a number.
 abbrev pub is : Expression → ℕ → Expression
 is x k = binary_of no_spot Eq x (number k)
 
+-- A cell of a memory.
 abbrev pub cell : List ℕ → Expression → Expression
 cell m i = cell_at no_spot m i
 
+-- The program counter.
 abbrev pub pc : Expression
 pc = read (codes "pc")
 
+-- The accumulator.
 abbrev pub acc : Expression
 acc = read (codes "acc")
 
+-- The instruction.
 abbrev pub ir : Expression
 ir = read (codes "ir")
 
+-- It is the first user's turn.
 abbrev pub turn_of_a : Expression
 turn_of_a = is (read (codes "who")) 0
 
@@ -74,9 +89,11 @@ turn_of_a = is (read (codes "who")) 0
 abbrev pub op : Expression
 op = slice no_spot ir 11 8
 
+-- The operand of the instruction.
 abbrev pub byte : Expression
 byte = slice no_spot ir 7 0
 
+-- The operand as the place of a cell.
 abbrev pub place : Expression
 place = slice no_spot ir 3 0
 
@@ -84,24 +101,31 @@ place = slice no_spot ir 3 0
 abbrev pub set : List ℕ → Expression → Command
 set name e = lone (tree.assign (named name) e)
 
+-- A write of a cell.
 abbrev pub store : List ℕ → (index value : Expression) → Command
 store name i e = lone (tree.write (named name) i e)
 
+-- A retagging by a level.
 abbrev pub set_tag : List ℕ → (level : List ℕ) → Command
 set_tag name l = lone (tree.set_tag nowhere (named name) (level_of (named l)))
 
+-- A `goto`.
 abbrev pub goto : List ℕ → Command
 goto name = lone (tree.go_to nowhere (named name))
 
+-- A `fall`.
 abbrev pub fall : Command
 fall = lone (tree.fall_to_child nowhere)
 
+-- An `if` without an `else`.
 abbrev pub when : Expression → List Command → Command
 when e cs = if_else nowhere e (block cs) no_else
 
+-- An `if` with an `else`.
 abbrev pub if_or : Expression → (then_part else_part : List Command) → Command
 if_or e cs ds = if_else nowhere e (block cs) (with_else (block ds))
 
+-- A state enforced at the lowest level.
 abbrev pub state : List ℕ → List Command → (children : List StateTree) → StateTree
 state name body children = state_node nowhere (named name) (enforced low) (block body) (states children)
 
@@ -163,5 +187,6 @@ run = state (codes "Run") (
     (set (codes "cnt") (minus (read (codes "cnt")) (number 1)) ∷ fall ∷ [])
     ∷ []) (user ∷ [])
 
+-- The time-sliced machine as a design.
 abbrev pub machine_design : DesignTree
 machine_design = record { version = One; declarations = declarations; states = states (boot ∷ kernel ∷ run ∷ []) }

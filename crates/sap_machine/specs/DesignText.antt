@@ -9,6 +9,7 @@ use Rattle.sap_parse.specs.Text.{IsText}
 abbrev pub IsTextOf : List ℕ → DesignTree → Type 0
 IsTextOf text design = (tree : DesignTree) × IsText text tree × (bare tree ≡ bare design)
 
+-- The text of the machine's design, line by line.
 abbrev pub machine_text : List ℕ
 machine_text = flat_map line (
     codes "input wa : 12;"

@@ -39,15 +39,19 @@ Stored = ((step (user_with 4 9 770)).cell 2 ≡ 9) × ((step (user_with 4 9 770)
 abbrev pub program_a : List ℕ
 program_a = line (codes "ldi 5") ++ line (codes "st 1") ++ line (codes "add 1") ++ line (codes "halt")
 
+-- The second user's program: it loads 7 and halts.
 abbrev pub program_b : List ℕ
 program_b = line (codes "ldi 7") ++ line (codes "halt")
 
+-- The words of the first user's program, worked out by hand.
 abbrev pub words_a : List ℕ
 words_a = 261 ∷ 769 ∷ 1025 ∷ 2048 ∷ replicate 12 0
 
+-- The words of the second user's program, worked out by hand.
 abbrev pub words_b : List ℕ
 words_b = 263 ∷ 2048 ∷ replicate 14 0
 
+-- The two programs, and an empty one, are assembled to these words.
 abbrev pub Assembles : Type 0
 Assembles = (assembled program_a ≡ Ok words_a) × (assembled program_b ≡ Ok words_b) × (assembled [] ≡ Ok (replicate 16 0))
 
@@ -76,14 +80,17 @@ nops (suc k) = line (codes "nop") ++ nops k
 abbrev pub TooMany : Type 0
 TooMany = (assembled (nops 16) ≡ Ok (replicate 16 0)) × (assembled (nops 17) ≡ refused B3 17) × (assembled (nops 16 ++ codes "what") ≡ refused B3 17)
 
+-- Lines of a stimulus that bring nothing.
 abbrev pub idle_lines : (count : ℕ) → List ℕ
 idle_lines zero = []
 idle_lines (suc k) = line (codes "0@a 0@b") ++ idle_lines k
 
+-- What `asm` prints for the two programs.
 abbrev pub AsmOfTwo : Type 0
 AsmOfTwo = asm_text program_a program_b 2
     ≡ Ok (line (codes "261@a 263@b") ++ line (codes "769@a 2048@b") ++ line (codes "1025@a 0@b") ++ line (codes "2048@a 0@b") ++ idle_lines 12 ++ line (codes "0@low 0@low *13"))
 
+-- What `cpu` prints for the two programs.
 abbrev pub CpuOfTwo : Type 0
 CpuOfTwo = cpu_text program_a program_b 2 ≡ Ok (line (codes "a pc=3 acc=10") ++ line (codes "b pc=1 acc=7"))
 
@@ -92,12 +99,15 @@ abbrev pub Refusals : Type 0
 Refusals = (asm_text (line (codes "ld 16")) (codes "halt") 2 ≡ Err (codes "asm 1: B2 line 1"))
     × (cpu_text program_a (line (codes "nop") ++ codes "halt") 2 ≡ Err (codes "asm 2: B4 line 2"))
 
+-- The lowest level.
 abbrev pub low : ℕ
 low = the.level (codes "low")
 
+-- The first user's level.
 abbrev pub level_a : ℕ
 level_a = the.level (codes "a")
 
+-- The second user's level.
 abbrev pub level_b : ℕ
 level_b = the.level (codes "b")
 
@@ -107,6 +117,7 @@ given_words [] b = []
 given_words (x ∷ a) [] = []
 given_words (x ∷ a) (y ∷ b) = (at_level level_a x ∷ at_level level_b y ∷ []) ∷ given_words a b
 
+-- Cycles that bring nothing.
 abbrev pub idle_cycles : (count : ℕ) → List (List Tagged)
 idle_cycles zero = []
 idle_cycles (suc k) = (at_level low 0 ∷ at_level low 0 ∷ []) ∷ idle_cycles k
@@ -115,12 +126,15 @@ idle_cycles (suc k) = (at_level low 0 ∷ at_level low 0 ∷ []) ∷ idle_cycles
 abbrev pub two_slices : (a b : List ℕ) → List (List Tagged)
 two_slices a b = given_words a b ++ idle_cycles 13
 
+-- The names of the machine's registers.
 abbrev pub register_names : List (List ℕ)
 register_names = codes "pc" ∷ codes "acc" ∷ codes "ir" ∷ codes "cnt" ∷ codes "who" ∷ codes "n" ∷ codes "apc" ∷ codes "aacc" ∷ codes "bpc" ∷ codes "bacc" ∷ []
 
+-- The number and level of an entity.
 abbrev pub content : Program → Store → (x : ℕ) → Tagged
 content p s x = at_level (level p.world (own x) s) (number (own x) s)
 
+-- The numbers and levels of the machine's registers.
 abbrev pub registers : Program → Store → List Tagged
 registers p s = map (λ name. content p s (entity name)) register_names
 

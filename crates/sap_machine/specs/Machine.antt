@@ -12,6 +12,7 @@ use Rattle.sap_machine.specs.declared.user.User.{User}
 use Rattle.sap_machine.specs.declared.user.User.TheVariants.{A, B}
 use Rattle.sap_machine.specs.Design.{machine_design}
 
+-- The program of the machine's design, over the four levels of the diamond.
 unfoldable pub machine : Program
 machine = program_of diamond machine_design
 
@@ -38,6 +39,7 @@ pub record Part : Type 0 where
   pub pc : ℕ
   pub acc : ℕ
 
+-- What is a user's: the level, the input, the registers and the memories.
 abbrev pub part : User → Part
 part A = record {
   level = level (codes "a");

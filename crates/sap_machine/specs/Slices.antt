@@ -13,6 +13,7 @@ instructions B n = 3 * (n / 2)
 unfoldable pub after_slices : User → (word : ℕ → ℕ) → (n : ℕ) → UserState
 after_slices u word n = steps (instructions u n) (begun word)
 
+-- The other user.
 abbrev pub other : User → User
 other A = B
 other B = A

@@ -37,6 +37,7 @@ user_after u words n = after_slices u (λ i. get_or words i 0) n
 unfoldable pub users_text : (a b : List ℕ) → (n : ℕ) → List ℕ
 users_text a b n = user_line (codes "a") (user_after A a n) ++ user_line (codes "b") (user_after B b n)
 
+-- How a code of assembly is written.
 abbrev pub code_text : AsmCode → List ℕ
 code_text B1 = codes "B1"
 code_text B2 = codes "B2"
@@ -60,5 +61,6 @@ of_both gives first second = in_file 1 (assembled first) (λ a. in_file 2 (assem
 abbrev pub asm_text : (first second : List ℕ) → (n : ℕ) → Result (List ℕ) (List ℕ)
 asm_text first second n = of_both (λ a b. stimulus_text a b n) first second
 
+-- What `cpu` prints for two programs and a number of time slices, or the fault.
 abbrev pub cpu_text : (first second : List ℕ) → (n : ℕ) → Result (List ℕ) (List ℕ)
 cpu_text first second n = of_both (λ a b. users_text a b n) first second

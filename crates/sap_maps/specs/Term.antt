@@ -5,6 +5,7 @@ use Rattle.sap_bits.specs.declared.Op1.{Op1}
 use Rattle.sap_bits.specs.declared.Op2.{Op2}
 use Rattle.sap_bits.specs.declared.Op2.TheVariants.{Shl, Shr}
 
+-- An expression over names, in which each constant has a width.
 pub data Term (N : Type 0) : Type 0 where
   constant : (width value : ℕ) → Term N
   read : N → Term N
@@ -30,6 +31,7 @@ term_width widths (choose c a b) = term_width widths a
 term_width widths (join a b) = term_width widths a + term_width widths b
 term_width widths (part a hi lo) = hi + 1 - lo
 
+-- The value of an expression.
 abbrev pub term_value : {N : Type 0} → (widths : N → ℕ) → (value : N → ℕ) → (cells : N → ℕ → ℕ) → Term N → ℕ
 term_value widths value cells (constant w x) = x
 term_value widths value cells (read n) = value n
@@ -44,6 +46,7 @@ term_value widths value cells (part a hi lo) = slice_of (term_value widths value
 
 -- P holds of each name that is read, Q of each memory of which a cell is read, with its index
 module _ {N : Type 0} (P : N → Type 0) (Q : N → Term N → Type 0) where
+  -- P holds of each name that a term reads, and Q of each memory.
   abbrev pub EveryRead : Term N → Type 0
   EveryRead (constant w x) = Unit {0}
   EveryRead (read n) = P n

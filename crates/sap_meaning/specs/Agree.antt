@@ -78,6 +78,7 @@ pub record StatesAgree (p : Program) (l : ℕ) (s t : Store) : Type 0 where
 abbrev pub seen : Order → ℕ → List Refusal → List Refusal
 seen o l rs = filter (λ r. o.le r.level l) rs
 
+-- The refusals of two runs agree at a level: those that it sees are the same.
 abbrev pub RefusalsAgree : Order → ℕ → List Refusal → List Refusal → Type 0
 RefusalsAgree o l rs qs = seen o l rs ≡ seen o l qs
 

@@ -10,6 +10,7 @@ pub record Home : Type 0 where
   pub parent : ℕ
   pub children : Group
 
+-- The number of the check site that a step is.
 abbrev pub site_of : Step → ℕ
 site_of (assign site x e) = site
 site_of (write site m i e) = site
@@ -38,6 +39,8 @@ child_opens w no_node n pc s = true
 child_opens w (and_node (state_node c b k) g) zero pc s = opens w c pc s
 child_opens w (and_node t g) (suc n) pc s = child_opens w g n pc s
 
+-- The level at which a refusal of a step is seen: the tag that the step would overwrite, or the authority that it would
+-- need.
 abbrev pub guard : World → Home → Step → Store → ℕ
 guard w at (assign site x e) s = if is_dynamic w x then w.order.bottom else level w (own x) s
 guard w at (write site m i e) s = if is_dynamic w m then w.order.bottom else w.order.join (tag w i s) (level w (start m (value w i s)) s)
@@ -46,6 +49,7 @@ guard w at (retag_cell site m j n) s = authority w m
 guard w at (go_to site target) s = entry w target
 guard w at (fall_to_child site hang) s = child_level w at.children (child at.state s) s
 
+-- A step is accepted: the tags of all that it depends on are at or below its guard, or its target is dynamic.
 abbrev pub test : World → Home → Step → ℕ → Store → Bool
 test w at (assign site x e) pc s = is_dynamic w x || w.order.le (w.order.join pc (tag w e s)) (level w (own x) s)
 test w at (write site m i e) pc s =

@@ -29,6 +29,7 @@ at_inputs w new old (next m i) = old (next m i)
 at_inputs w new old (start_whole m) = old (start_whole m)
 at_inputs w new old (next_whole m) = old (next_whole m)
 
+-- A cycle begins by giving each input its number and its level.
 unfoldable pub set_inputs : World → List Tagged → Store → Store
 set_inputs w inputs s = record s {
   number = at_inputs w (λ x. (given w inputs x).number) s.number;

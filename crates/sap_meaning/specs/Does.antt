@@ -74,6 +74,8 @@ is_constant constants n = list_any (λ c. nat_eq n c) constants
 abbrev pub choose_arm : List ℕ → (ℕ → Store → After) → (ℕ → ℕ → Store → After) → ℕ → ℕ → Store → After
 choose_arm constants arm others n pc s = if is_constant constants n then arm pc s else others n pc s
 
+-- What a command does. A refused step with a handler runs the handler; each branch raises the tags of what the command
+-- touches.
 unfoldable mutual
   pub does : World → Home → (ℕ → ℕ → Store → After) → Command → ℕ → Store → After
   does w at enter (lone k) = attempt w at enter k (raised_alone w at k) (λ pc s. stay s)
@@ -92,6 +94,7 @@ unfoldable mutual
   does_block w at enter end_block pc s = stay s
   does_block w at enter (command_then c cs) pc s = and_then (does w at enter c pc s) (does_block w at enter cs pc)
 
+-- What a state's body does, and what the children do into which it falls.
 unfoldable mutual
   -- a state's body
   pub does_state : World → State → (parent : ℕ) → ℕ → Store → After

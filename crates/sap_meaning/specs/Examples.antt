@@ -28,9 +28,11 @@ four_levels = record {
   top = 3;
 }
 
+-- An input of some width, for examples.
 abbrev pub an_input : ℕ → Entity
 an_input u = record { kind = input; width = u; dynamic = true; declared = 0; authority = 0; initial = 0 }
 
+-- A dynamic register of some width.
 abbrev pub a_register : ℕ → Entity
 a_register u = record { kind = register; width = u; dynamic = true; declared = 0; authority = 0; initial = 0 }
 
@@ -38,24 +40,31 @@ a_register u = record { kind = register; width = u; dynamic = true; declared = 0
 abbrev pub held_register : (width level initial : ℕ) → Entity
 held_register u t n = record { kind = register; width = u; dynamic = false; declared = t; authority = 0; initial = n }
 
+-- A dynamic memory of some width and depth.
 abbrev pub a_memory : (width depth : ℕ) → Entity
 a_memory u d = record { kind = memory d; width = u; dynamic = true; declared = 0; authority = 0; initial = 0 }
 
+-- A memory that is enforced at a level.
 abbrev pub held_memory : (width depth level : ℕ) → Entity
 held_memory u d t = record { kind = memory d; width = u; dynamic = false; declared = t; authority = 0; initial = 0 }
 
+-- A dynamic state at a place of its group.
 abbrev pub a_state : (place last : ℕ) → Entity
 a_state n m = record { kind = state n m; width = 0; dynamic = true; declared = 0; authority = 0; initial = 0 }
 
+-- A state that is enforced at a level.
 abbrev pub held_state : (place last level : ℕ) → Entity
 held_state n m t = record { kind = state n m; width = 0; dynamic = false; declared = t; authority = 0; initial = 0 }
 
+-- A number at a level.
 abbrev pub at_level : ℕ → ℕ → Tagged
 at_level t n = record { number = n; level = t }
 
+-- A number at the lower of two levels.
 abbrev pub low : ℕ → Tagged
 low n = at_level 0 n
 
+-- A number at the higher of two levels.
 abbrev pub high : ℕ → Tagged
 high n = at_level 1 n
 
@@ -63,13 +72,16 @@ high n = at_level 1 n
 abbrev pub shown : ℕ → After → Tagged × List Refusal
 shown x a = (record { number = number (own x) a.store; level = a.store.level (own x) }, a.refused)
 
+-- What is shown of a register after each of these cycles.
 abbrev pub all_shown : ℕ → List After → List (Tagged × List Refusal)
 all_shown x [] = []
 all_shown x (a ∷ as') = shown x a ∷ all_shown x as'
 
+-- What a program shows of a register in each cycle of a run.
 abbrev pub shows : Program → ℕ → List (List Tagged) → List (Tagged × List Refusal)
 shows p x stream = all_shown x (labelled_run p stream)
 
+-- The refusal of a site that is seen at a level.
 abbrev pub refused_at : (site level : ℕ) → Refusal
 refused_at k t = record { site = k; level = t }
 
@@ -86,6 +98,7 @@ abbrev pub sum : Program
 sum = program_of two_levels (an_input 8 ∷ a_register 8 ∷ held_state 0 2 0 ∷ []) (0 ∷ 0 ∷ 0 ∷ 1 ∷ [])
     (loop 2 1 (λ b. command_then (lone (assign 0 1 (two Add (read 0) (constant 8 1)))) b))
 
+-- A register that takes its input plus one has the input's level too, and 255 + 1 is 0 at width 8.
 abbrev pub Sum : Type 0
 Sum = shows sum 1 ((low 5 ∷ []) ∷ (high 255 ∷ []) ∷ []) ≡ (low 6, []) ∷ (high 0, []) ∷ []
 

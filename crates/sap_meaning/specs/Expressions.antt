@@ -5,6 +5,7 @@ use Rattle.sap_maps.specs.Term.{Term, constant, read, cell, one, two, choose, jo
 use Rattle.sap_meaning.specs.Program.{World, width, LevelTerm, fixed, of, at_place, both}
 use Rattle.sap_meaning.specs.Store.{Store, own, start, number, level}
 
+-- The width of an expression.
 abbrev pub width_of : World → Term ℕ → ℕ
 width_of w e = term_width (width w) e
 

@@ -76,9 +76,11 @@ abbrev pub inside : Group → ℕ → Bool
 inside no_node x = false
 inside (and_node (state_node s b k) g) x = nat_eq x s || (inside k x || inside g x)
 
+-- The number of a state among the entities.
 abbrev pub number_of : State → ℕ
 number_of (state_node s b g) = s
 
+-- The children of a state.
 abbrev pub kids_of : State → Group
 kids_of (state_node s b g) = g
 
@@ -103,6 +105,7 @@ pub record FineNode (w : World) (q : Group) (n s : ℕ) (b : Block) (g : Group) 
   pub retags_itself : (block_retags b s || group_retags g s) ≡ false
   pub retags_below : (x : ℕ) → inside g x ≡ true → block_retags b x ≡ false
 
+-- A state stands at a place of its group as its entity says, and so do its descendants.
 abbrev mutual
   pub FineState : World → (siblings : Group) → (place : ℕ) → State → Type 0
   FineState w q n (state_node s b g) = FineNode w q n s b g × FineGroup w g 0 g
@@ -116,6 +119,7 @@ abbrev mutual
 abbrev pub ExactList : World → Home → List Bool → Command → Type 0
 ExactList w at hang c = (x : ℕ) → listed hang x ≡ touches w at c x
 
+-- A step of a program whose stored lists are what the steps touch; only a `fall` has such a list.
 abbrev pub ExactStep : World → Home → Step → Type 0
 ExactStep w at (assign site x e) = Unit {0}
 ExactStep w at (write site m i e) = Unit {0}
@@ -132,6 +136,7 @@ ExactCommand w at (if_else hang e a b) = ExactList w at hang (if_else hang e a b
 ExactCommand w at (try_then k hang a b) = ExactList w at hang (try_then k hang a b)
 ExactCommand w at (case_of hang e arms) = ExactList w at hang (case_of hang e arms)
 
+-- The stored lists in a state's body and in those of its descendants are what the commands touch.
 abbrev mutual
   pub ExactState : World → (parent : ℕ) → State → Type 0
   ExactState w p (state_node s b g) = EveryInBlock (ExactCommand w (record { state = s; parent = p; children = g })) b × ExactGroup w s g
@@ -140,10 +145,13 @@ abbrev mutual
   ExactGroup w p no_node = Unit {0}
   ExactGroup w p (and_node t g) = ExactState w p t × ExactGroup w p g
 
+-- Each list that a program stores is what its command, or the root, touches.
 pub record ExactProgram (p : Program) : Type 0 where
   pub lists : ExactGroup p.world (root p.world) p.states
   pub hang : (x : ℕ) → listed p.hang x ≡ root_touches p.world p.states x
 
+-- What the laws ask of a program: a lawful order, states numbered by place, no memory written twice, and dynamic
+-- inputs.
 pub record FineProgram (p : Program) : Type 0 where
   pub order : Laws p.world.order
   pub states : FineGroup p.world p.states 0 p.states

@@ -12,6 +12,7 @@ step_writes (retag_cell site n j t) m = nat_eq m n
 step_writes (go_to site target) m = false
 step_writes (fall_to_child site hang) m = false
 
+-- Some step of a command writes this memory.
 abbrev pub writes : Command → ℕ → Bool
 writes c m = some (λ k. step_writes k m) c
 
@@ -24,12 +25,15 @@ step_reaching falls (retag_cell site n j t) m = nat_eq m n
 step_reaching falls (go_to site target) m = false
 step_reaching falls (fall_to_child site hang) m = falls m
 
+-- Some step of a command writes this memory, or falls into a state that does so by the given test.
 abbrev pub reaching : (falls : ℕ → Bool) → Command → ℕ → Bool
 reaching falls c m = some (λ k. step_reaching falls k m) c
 
+-- Some step of the arms does so.
 abbrev pub arms_reaching : (falls : ℕ → Bool) → Arms → ℕ → Bool
 arms_reaching falls arms m = some_in_arms (λ k. step_reaching falls k m) arms
 
+-- Some step of a block does so.
 abbrev pub block_reaching : (falls : ℕ → Bool) → Block → ℕ → Bool
 block_reaching falls b m = some_in_block (λ k. step_reaching falls k m) b
 
@@ -46,9 +50,11 @@ abbrev mutual
 abbrev pub step_reaches : Group → Step → ℕ → Bool
 step_reaches g k m = step_reaching (group_reaches g) k m
 
+-- A command writes this memory, itself or by a fall into these children.
 abbrev pub reaches : Group → Command → ℕ → Bool
 reaches g c m = reaching (group_reaches g) c m
 
+-- A block writes this memory, itself or by a fall into these children.
 abbrev pub block_reaches : Group → Block → ℕ → Bool
 block_reaches g b m = block_reaching (group_reaches g) b m
 

@@ -32,72 +32,89 @@ pub record World : Type 0 where
 abbrev pub nothing : Entity
 nothing = record { kind = state 0 0; width = 0; dynamic = true; declared = 0; authority = 0; initial = 0 }
 
+-- The entity of a number; a number without one stands for nothing.
 abbrev pub entity : World → ℕ → Entity
 entity w x = get_or w.entities x nothing
 
+-- The number of the root, which is one past the last entity.
 abbrev pub root : World → ℕ
 root w = length w.entities
 
+-- The entity of a number is dynamic.
 abbrev pub is_dynamic : World → ℕ → Bool
 is_dynamic w x = (entity w x).dynamic
 
+-- The level of the authority of an entity.
 abbrev pub authority : World → ℕ → ℕ
 authority w x = (entity w x).authority
 
+-- The width of an entity.
 abbrev pub width : World → ℕ → ℕ
 width w x = (entity w x).width
 
+-- How many children a state has, or the root.
 abbrev pub children : World → ℕ → ℕ
 children w p = get_or w.children p 0
 
+-- This is the kind of inputs.
 abbrev pub kind_is_input : Kind → Bool
 kind_is_input input = true
 kind_is_input register = false
 kind_is_input (memory depth) = false
 kind_is_input (state place last) = false
 
+-- This is the kind of registers.
 abbrev pub kind_is_register : Kind → Bool
 kind_is_register input = false
 kind_is_register register = true
 kind_is_register (memory depth) = false
 kind_is_register (state place last) = false
 
+-- This is the kind of memories.
 abbrev pub kind_is_memory : Kind → Bool
 kind_is_memory input = false
 kind_is_memory register = false
 kind_is_memory (memory depth) = true
 kind_is_memory (state place last) = false
 
+-- This is the kind of states.
 abbrev pub kind_is_state : Kind → Bool
 kind_is_state input = false
 kind_is_state register = false
 kind_is_state (memory depth) = false
 kind_is_state (state place last) = true
 
+-- The entity of a number is an input.
 abbrev pub is_input : World → ℕ → Bool
 is_input w x = kind_is_input (entity w x).kind
 
+-- The entity of a number is a register.
 abbrev pub is_register : World → ℕ → Bool
 is_register w x = kind_is_register (entity w x).kind
 
+-- The entity of a number is a memory.
 abbrev pub is_memory : World → ℕ → Bool
 is_memory w x = kind_is_memory (entity w x).kind
 
+-- The entity of a number is a state.
 abbrev pub is_state : World → ℕ → Bool
 is_state w x = kind_is_state (entity w x).kind
 
+-- The place of a state in its group, from 0.
 abbrev pub place_of : Kind → ℕ
 place_of input = 0
 place_of register = 0
 place_of (memory depth) = 0
 place_of (state place last) = place
 
+-- One past the last entity among a state's descendants.
 abbrev pub last_of : Kind → ℕ
 last_of input = 0
 last_of register = 0
 last_of (memory depth) = 0
 last_of (state place last) = last
 
+-- The number of cells of a memory.
 abbrev pub depth_of : Kind → ℕ
 depth_of input = 0
 depth_of register = 0
@@ -148,6 +165,7 @@ mutual
     last_arm : Block → Arms
     and_arm : (constants : List ℕ) → Block → Arms → Arms
 
+  -- A list of commands in the order in which they run.
   pub data Block : Type 0 where
     end_block : Block
     command_then : Command → Block → Block
@@ -157,6 +175,7 @@ mutual
   pub data State : Type 0 where
     state_node : (number : ℕ) → (body : Block) → (children : Group) → State
 
+  -- The children of a state, in the order of their numbers.
   pub data Group : Type 0 where
     no_node : Group
     and_node : State → Group → Group

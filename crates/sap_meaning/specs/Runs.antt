@@ -15,6 +15,7 @@ listed_alone w at (retag_cell site m j n) x = false
 listed_alone w at (go_to site target) x = touches w at (lone (go_to site target)) x
 listed_alone w at (fall_to_child site hang) x = listed hang x
 
+-- The same as `does`, but what a command touches is taken from the list that is stored with it.
 unfoldable mutual
   pub run : World → Home → (ℕ → ℕ → Store → After) → Command → ℕ → Store → After
   run w at enter (lone k) = attempt w at enter k (listed_alone w at k) (λ pc s. stay s)
@@ -31,6 +32,7 @@ unfoldable mutual
   run_block w at enter end_block pc s = stay s
   run_block w at enter (command_then c cs) pc s = and_then (run w at enter c pc s) (run_block w at enter cs pc)
 
+-- The same as `does_state`, with these lists.
 unfoldable mutual
   pub run_state : World → State → (parent : ℕ) → ℕ → Store → After
   run_state w (state_node s b g) parent pc st = run_block w (record { state = s; parent = parent; children = g }) (run_child w g s) b pc st

@@ -14,6 +14,7 @@ abbrev pub sample_entities : List Entity
 sample_entities = an_input 2 ∷ a_register 8 ∷ held_register 8 0 7 ∷ a_memory 8 4 ∷ held_memory 8 4 0
     ∷ held_state 0 7 0 ∷ a_state 0 6 ∷ held_state 1 7 1 ∷ held_state 1 8 1 ∷ []
 
+-- The entities of the program, over two levels.
 abbrev pub sample_world : World
 sample_world = record { order = two_levels; entities = sample_entities; children = 0 ∷ 0 ∷ 0 ∷ 0 ∷ 0 ∷ 2 ∷ 0 ∷ 0 ∷ 0 ∷ 2 ∷ [] }
 
@@ -21,6 +22,7 @@ sample_world = record { order = two_levels; entities = sample_entities; children
 abbrev pub on_fall : List Bool
 on_fall = false ∷ true ∷ false ∷ true ∷ false ∷ false ∷ true ∷ []
 
+-- What the root touches in it.
 abbrev pub on_root : List Bool
 on_root = false ∷ true ∷ false ∷ true ∷ []
 
@@ -43,12 +45,15 @@ body_p = command_then (try (assign 1 2 (cell 3 (read 0))) [] (command_then (lone
     (command_then (if_else on_fall (two Eq (read 0) (constant 2 1)) (command_then (lone (go_to 4 8)) end_block)
     (command_then (try (fall_to_child 5 on_fall) on_fall (command_then (lone (go_to 6 5)) end_block)) end_block)) end_block))
 
+-- The children of its first state.
 abbrev pub sample_kids : Group
 sample_kids = and_node (state_node 6 body_c no_node) (and_node (state_node 7 body_d no_node) no_node)
 
+-- Its top-level states.
 abbrev pub sample_states : Group
 sample_states = and_node (state_node 5 body_p sample_kids) (and_node (state_node 8 body_q no_node) no_node)
 
+-- The program.
 abbrev pub sample : Program
 sample = record { world = sample_world; states = sample_states; hang = on_root }
 

@@ -25,15 +25,19 @@ pub record PlacedStep : Type 0 where
   pub state : ℕ
   pub step : Step
 
+-- A step by itself is a check site, or none.
 abbrev pub step_sites : World → (s : ℕ) → (g : Group) → Step → List PlacedStep
 step_sites w s g k = if is_site w s g k then record { state = s; step = k } ∷ [] else []
 
+-- The check sites of a command and of all commands in it, in the order of the text.
 abbrev pub command_sites : World → (s : ℕ) → (g : Group) → Command → List PlacedStep
 command_sites w s g c = gathered [] ◌++◌ (step_sites w s g) c
 
+-- Those of the arms of a `case`.
 abbrev pub arms_sites : World → (s : ℕ) → (g : Group) → Arms → List PlacedStep
 arms_sites w s g arms = gathered_in_arms [] ◌++◌ (step_sites w s g) arms
 
+-- Those of a block.
 abbrev pub block_sites : World → (s : ℕ) → (g : Group) → Block → List PlacedStep
 block_sites w s g b = gathered_in_block [] ◌++◌ (step_sites w s g) b
 
@@ -41,12 +45,15 @@ block_sites w s g b = gathered_in_block [] ◌++◌ (step_sites w s g) b
 abbrev pub body_sites : World → State → List PlacedStep
 body_sites w (state_node s b g) = block_sites w s g b
 
+-- Those of a state's body and of its descendants' bodies.
 abbrev pub state_sites : World → State → List PlacedStep
 state_sites w t = gathered_from [] ◌++◌ (body_sites w) t
 
+-- Those of a group of states.
 abbrev pub group_sites : World → Group → List PlacedStep
 group_sites w g = gathered_from_group [] ◌++◌ (body_sites w) g
 
+-- The check sites of a program, each with the state in whose body it appears.
 abbrev pub placed_sites : Program → List PlacedStep
 placed_sites p = group_sites p.world p.states
 
@@ -54,9 +61,11 @@ placed_sites p = group_sites p.world p.states
 abbrev pub site_numbers : List PlacedStep → List ℕ
 site_numbers ks = map (λ (k : PlacedStep). site_of k.step) ks
 
+-- The numbers of a program's check sites, in the order of the text.
 abbrev pub program_sites : Program → List ℕ
 program_sites p = site_numbers (placed_sites p)
 
+-- The sites of these refusals, in order.
 abbrev pub refused_sites : List Refusal → List ℕ
 refused_sites rs = map (λ r. r.site) rs
 

@@ -6,6 +6,7 @@ use Rattle.sap_meaning.specs.Program.{World, Program, entity, width, depth_of, L
 use Rattle.sap_meaning.specs.Walks.{EveryLevel, EveryInBlock, arm_constants, EveryBody, EveryBodyIn}
 use Rattle.sap_meaning.specs.Expressions.{width_of}
 
+-- The number of cells of a memory.
 abbrev pub depth : World → ℕ → ℕ
 depth w m = depth_of (entity w m).kind
 
@@ -17,12 +18,15 @@ Indexes w m i = 2 ^ width_of w i ≡ depth w m
 abbrev pub Indexed : World → Term ℕ → Type 0
 Indexed w e = EveryRead (λ x. Unit {0}) (Indexes w) e
 
+-- In an expression each operand has the width that its operator takes, and each index has the width of its memory.
 abbrev pub SizedTerm : World → Term ℕ → Type 0
 SizedTerm w e = TermFits (width w) e × Indexed w e
 
+-- In a tag expression each expression has such widths.
 abbrev pub SizedLevel : World → LevelTerm → Type 0
 SizedLevel w n = EveryLevel (λ level. Unit {0}) (SizedTerm w) n
 
+-- In a step each expression has such widths, and the assigned value has the target's width.
 abbrev pub SizedStep : World → Step → Type 0
 SizedStep w (assign site x e) = SizedTerm w e × (width_of w e ≡ width w x)
 SizedStep w (write site m i e) = SizedTerm w i × Indexes w m i × SizedTerm w e × (width_of w e ≡ width w m)
@@ -43,12 +47,15 @@ SizedCommand w (if_else hang e a b) = SizedTerm w e × (width_of w e ≡ 1)
 SizedCommand w (try_then k hang a b) = SizedStep w k
 SizedCommand w (case_of hang e arms) = SizedTerm w e × AllByRecursion (AreWithin (width_of w e)) (arm_constants arms)
 
+-- In a state's body, and in those of its descendants, each step has such widths.
 abbrev pub SizedState : World → State → Type 0
 SizedState w t = EveryBody (EveryInBlock (SizedCommand w)) t
 
+-- In the bodies of a group's states and of their descendants each step has such widths.
 abbrev pub SizedGroup : World → Group → Type 0
 SizedGroup w g = EveryBodyIn (EveryInBlock (SizedCommand w)) g
 
+-- All widths of a program fit, start numbers fit their registers, and declared levels are levels.
 pub record SizedProgram (p : Program) : Type 0 where
   pub states : SizedGroup p.world p.states
   pub initials : (x : ℕ) → (entity p.world x).initial < 2 ^ width p.world x

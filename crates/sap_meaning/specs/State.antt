@@ -59,6 +59,7 @@ AllFit levels [] (t ∷ ts) = ⊥
 AllFit levels (u ∷ us) [] = ⊥
 AllFit levels (u ∷ us) (t ∷ ts) = (t.number < 2 ^ u) × (t.level < levels) × AllFit levels us ts
 
+-- A cycle of a stream has a number for each input that fits its width, and a level of the lattice.
 abbrev pub InputsFit : World → List Tagged → Type 0
 InputsFit w inputs = AllFit w.order.count (input_widths w.entities) inputs
 

@@ -43,15 +43,19 @@ held w (next m i) = is_memory w m
 held w (start_whole m) = false
 held w (next_whole m) = false
 
+-- The number in a slot.
 abbrev pub number : Slot → Store → ℕ
 number z s = s.number z
 
+-- The level of a slot.
 abbrev pub level : World → Slot → Store → ℕ
 level w z s = s.level (home w z)
 
+-- The current child of a state, by its place in the group.
 abbrev pub child : ℕ → Store → ℕ
 child p s = s.child p
 
+-- Two slots are the same.
 abbrev pub same_slot : Slot → Slot → Bool
 same_slot (own x) (own y) = nat_eq x y
 same_slot (start m i) (start n j) = nat_eq m n && nat_eq i j
@@ -60,12 +64,15 @@ same_slot (start_whole m) (start_whole n) = nat_eq m n
 same_slot (next_whole m) (next_whole n) = nat_eq m n
 same_slot _ _ = false
 
+-- The store with another number in one slot.
 unfoldable pub put_number : Slot → ℕ → Store → Store
 put_number z n s = record s { number = λ y. if same_slot y z then n else s.number y }
 
+-- The store with another level at one slot.
 unfoldable pub put_level : World → Slot → ℕ → Store → Store
 put_level w z t s = record s { level = λ y. if same_slot y (home w z) then t else s.level y }
 
+-- The store with another current child of one state.
 unfoldable pub put_child : ℕ → ℕ → Store → Store
 put_child p n s = record s { child = λ q. if nat_eq q p then n else s.child q }
 
@@ -119,8 +126,10 @@ pub record After : Type 0 where
   pub store : Store
   pub refused : List Refusal
 
+-- Nothing changes, and nothing is refused.
 abbrev pub stay : Store → After
 stay s = record { store = s; refused = [] }
 
+-- One thing after another, with the refusals of both in order.
 abbrev pub and_then : After → (Store → After) → After
 and_then a f = let b = f a.store in record { store = b.store; refused = a.refused ++ b.refused }

@@ -17,9 +17,11 @@ step_assigns (fall_to_child site hang) x = false
 abbrev pub assigns : Command → ℕ → Bool
 assigns c x = some (λ k. step_assigns k x) c
 
+-- Some step of the arms assigns or writes this entity.
 abbrev pub arms_assign : Arms → ℕ → Bool
 arms_assign arms x = some_in_arms (λ k. step_assigns k x) arms
 
+-- Some step of a block assigns or writes this entity.
 abbrev pub block_assigns : Block → ℕ → Bool
 block_assigns b x = some_in_block (λ k. step_assigns k x) b
 
@@ -27,6 +29,7 @@ block_assigns b x = some_in_block (λ k. step_assigns k x) b
 abbrev pub state_assigns : State → ℕ → Bool
 state_assigns t x = some_body (λ b. block_assigns b x) t
 
+-- Some step in the bodies of a group, or of their descendants, assigns or writes this entity.
 abbrev pub group_assigns : Group → ℕ → Bool
 group_assigns g x = some_body_in (λ b. block_assigns b x) g
 
@@ -39,15 +42,19 @@ step_retags (retag_cell site m j n) x = false
 step_retags (go_to site target) x = false
 step_retags (fall_to_child site hang) x = false
 
+-- Some step of a command retags this entity.
 abbrev pub retags : Command → ℕ → Bool
 retags c x = some (λ k. step_retags k x) c
 
+-- Some step of a block retags this entity.
 abbrev pub block_retags : Block → ℕ → Bool
 block_retags b x = some_in_block (λ k. step_retags k x) b
 
+-- Some step in a state's body, or in those of its descendants, retags this entity.
 abbrev pub state_retags : State → ℕ → Bool
 state_retags t x = some_body (λ b. block_retags b x) t
 
+-- Some step in the bodies of a group, or of their descendants, retags this entity.
 abbrev pub group_retags : Group → ℕ → Bool
 group_retags g x = some_body_in (λ b. block_retags b x) g
 
@@ -66,12 +73,15 @@ step_hangs s g (retag_cell site m j n) x = false
 step_hangs s g (go_to site target) x = nat_eq x s
 step_hangs s g (fall_to_child site hang) x = among g x || group_assigns g x
 
+-- A command touches this entity: whether some step of it ran can be told by the entity.
 abbrev pub hangs : ℕ → Group → Command → ℕ → Bool
 hangs s g c x = some (λ k. step_hangs s g k x) c
 
+-- Some step of the arms touches this entity.
 abbrev pub arms_hang : ℕ → Group → Arms → ℕ → Bool
 arms_hang s g arms x = some_in_arms (λ k. step_hangs s g k x) arms
 
+-- Some step of a block touches this entity.
 abbrev pub block_hangs : ℕ → Group → Block → ℕ → Bool
 block_hangs s g b x = some_in_block (λ k. step_hangs s g k x) b
 

@@ -5,6 +5,7 @@ use Rattle.sap_meaning.specs.Program.{LevelTerm, fixed, of, at_place, both, Step
 
 -- P holds of each written level, Q of each expression whose level is taken
 module _ (P : ℕ → Type 0) (Q : Term ℕ → Type 0) where
+  -- P holds of each fixed level of a level's term, and Q of each term in it.
   abbrev pub EveryLevel : LevelTerm → Type 0
   EveryLevel (fixed n) = P n
   EveryLevel (of e) = Q e
@@ -13,6 +14,7 @@ module _ (P : ℕ → Type 0) (Q : Term ℕ → Type 0) where
 
 -- P holds of a command and of each command inside it
 module _ (P : Command → Type 0) where
+  -- P holds of each command within a command, itself included where it has a step.
   abbrev mutual
     pub Every : Command → Type 0
     Every (lone k) = P (lone k)
@@ -39,6 +41,7 @@ Asks P Q (case_of hang e arms) = Q e
 
 -- A fold: `own c below` is what a command has where its blocks have `below`, which is what their commands have, joined in the order of the text, or `none`.
 module _ {A : Type 0} (none : A) (join : A → A → A) (own : Command → (below : A) → A) where
+  -- A value made from a command from below: `own` of the command and of what its blocks give, joined in order.
   abbrev mutual
     pub folded : Command → A
     folded (lone k) = own (lone k) none
@@ -57,6 +60,7 @@ module _ {A : Type 0} (none : A) (join : A → A → A) (own : Command → (belo
 
 -- what f has of each step, joined in the order of the text
 module _ {A : Type 0} (none : A) (join : A → A → A) (f : Step → A) where
+  -- What a command's own step gives, joined with what its blocks give.
   abbrev pub with_step : Command → (below : A) → A
   with_step (lone k) below = f k
   with_step (try k hang h) below = join (f k) below
@@ -64,17 +68,21 @@ module _ {A : Type 0} (none : A) (join : A → A → A) (f : Step → A) where
   with_step (try_then k hang a b) below = join (f k) below
   with_step (case_of hang e arms) below = below
 
+  -- What f gives for the steps of a command, joined in order.
   abbrev pub gathered : Command → A
   gathered c = folded none join with_step c
 
+  -- What f gives for the steps of the arms of a `case`, joined in order.
   abbrev pub gathered_in_arms : Arms → A
   gathered_in_arms arms = folded_in_arms none join with_step arms
 
+  -- What f gives for the steps of a block, joined in order.
   abbrev pub gathered_in_block : Block → A
   gathered_in_block b = folded_in_block none join with_step b
 
 -- the same commands with other steps and other lists of what hangs
 module _ (step : Step → Step) (hang_of : Command → List Bool) where
+  -- A command with each step and each list of what hangs replaced.
   abbrev mutual
     pub mapped : Command → Command
     mapped (lone k) = lone (step k)
@@ -95,9 +103,11 @@ module _ (step : Step → Step) (hang_of : Command → List Bool) where
 abbrev pub some : (p : Step → Bool) → Command → Bool
 some p c = gathered false ◌||◌ p c
 
+-- Some step of the arms of a `case` has a property.
 abbrev pub some_in_arms : (p : Step → Bool) → Arms → Bool
 some_in_arms p arms = gathered_in_arms false ◌||◌ p arms
 
+-- Some step of a block has a property.
 abbrev pub some_in_block : (p : Step → Bool) → Block → Bool
 some_in_block p b = gathered_in_block false ◌||◌ p b
 
@@ -106,11 +116,13 @@ abbrev pub arm_constants : Arms → List (List ℕ)
 arm_constants (last_arm b) = []
 arm_constants (and_arm constants b arms) = constants ∷ arm_constants arms
 
+-- The block that is a state's body.
 abbrev pub body_of : State → Block
 body_of (state_node s b g) = b
 
 -- P holds of the body of a state, and of that of each state below it
 module _ (P : Block → Type 0) where
+  -- P holds of the body of a state and of all states below it.
   abbrev mutual
     pub EveryBody : State → Type 0
     EveryBody (state_node s b g) = P b × EveryBodyIn g
@@ -121,6 +133,7 @@ module _ (P : Block → Type 0) where
 
 -- what f has of each state, joined, a state before those below it
 module _ {A : Type 0} (none : A) (join : A → A → A) (f : State → A) where
+  -- What f gives for a state and all states below it, joined in order.
   abbrev mutual
     pub gathered_from : State → A
     gathered_from (state_node s b g) = join (f (state_node s b g)) (gathered_from_group g)
@@ -133,5 +146,6 @@ module _ {A : Type 0} (none : A) (join : A → A → A) (f : State → A) where
 abbrev pub some_body : (p : Block → Bool) → State → Bool
 some_body p t = gathered_from false ◌||◌ (λ a. p (body_of a)) t
 
+-- The body of some state of a group, or of a descendant, has a property.
 abbrev pub some_body_in : (p : Block → Bool) → Group → Bool
 some_body_in p g = gathered_from_group false ◌||◌ (λ a. p (body_of a)) g

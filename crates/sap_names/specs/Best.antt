@@ -9,6 +9,7 @@ comes_first a b =
     ltb a.place.line b.place.line || (eqb a.place.line b.place.line
     && (ltb a.place.column b.place.column || (eqb a.place.column b.place.column && leb (number a.code) (number b.code))))
 
+-- The fault that comes first, of the best one so far and a further one.
 abbrev pub better : Option Fault → Fault → Option Fault
 better o f = best.better comes_first o f
 

@@ -12,12 +12,14 @@ pub use Rattle.sap_tree.specs.Touches.{is_dynamic_kind}
 -- a declared name: where it is declared, what it is, and whether it is dynamic, as inputs are
 pub use Rattle.sap_names.specs.declared.entity.Entity.{Entity}
 
+-- The entity that a declaration declares.
 abbrev pub entity_of : Decl → Entity
 entity_of (Input place name width) = record { name = name; what = what.Input width.value; dynamic = true }
 entity_of (Register place name width kind start) = record { name = name; what = what.Register width.value; dynamic = is_dynamic_kind kind }
 entity_of (Memory place name width depth kind) =
     record { name = name; what = what.Memory width.value depth.value; dynamic = is_dynamic_kind kind }
 
+-- The entities of the declarations, in order.
 abbrev pub declared_in : List Decl → List Entity
 declared_in ds = map entity_of ds
 
@@ -31,6 +33,7 @@ abbrev mutual
   group_entities no_state = []
   group_entities (and_state s rest) = state_entities s ++ group_entities rest
 
+-- The entities of a design: those of its declarations, and then its states.
 abbrev pub entities_of : DesignTree → List Entity
 entities_of d = declared_in d.declarations ++ group_entities d.states
 
@@ -51,6 +54,7 @@ number_of (e ∷ es) name = if bytes_eq e.name.name name then Some 0 else option
 abbrev pub entity_number : List Entity → List ℕ → ℕ
 entity_number es name = unwrap_or (number_of es name) 0
 
+-- What the entity of a name is, if there is one: the first of the name.
 abbrev pub what_is : List Entity → Lookup
 what_is es name = option_map (λ e. e.what) (find es name)
 
@@ -59,10 +63,12 @@ abbrev pub dynamic_of : Option Entity → Bool
 dynamic_of None = false
 dynamic_of (Some e) = e.dynamic
 
+-- There is an entity, and it is enforced.
 abbrev pub enforced_of : Option Entity → Bool
 enforced_of None = false
 enforced_of (Some e) = not e.dynamic
 
+-- What an entity is, without its widths.
 abbrev pub kind_of_declared : Declared → EntityKind
 kind_of_declared (what.Input width) = kinds.Input
 kind_of_declared (what.Register width) = kinds.Register
@@ -83,5 +89,6 @@ HasWidth (what.Register width) = (1 ≤ width) × (width ≤ 64)
 HasWidth (what.Memory width depth) = (1 ≤ width) × (width ≤ 64)
 HasWidth what.State = Unit {0}
 
+-- Each entity that has a width has one from 1 to 64.
 abbrev pub HaveWidths : List Entity → Type 0
 HaveWidths es = AllByRecursion (λ e. HasWidth e.what) es

@@ -14,27 +14,35 @@ use Rattle.sap_names.specs.declared.kind.Code.TheVariants.{E4, E7, E8}
 use Rattle.sap_names.specs.Entities.{Lookup}
 use Rattle.sap_names.specs.NameFaults.{design_name_faults, tag_faults}
 
+-- The places of an expression whose operator is at one column and whose first token is at another.
 abbrev pub inside : ℕ → ℕ → Spot
 inside first column = record { first = at first; at = at column }
 
+-- The fault of a code at a column.
 abbrev pub fault : Code → ℕ → Fault
 fault code column = record { code = code; place = at column }
 
+-- No name is declared.
 abbrev pub nothing : Lookup
 nothing name = None
 
+-- The names of two levels.
 abbrev pub levels : List (List ℕ)
 levels = codes "low" ∷ codes "high" ∷ []
 
+-- The first level is at or below the second.
 abbrev pub below : ℕ → ℕ → Bool
 below a b = leb a b
 
+-- The kind `enforced low` at a column.
 abbrev pub low : ℕ → Kind
 low column = Enforced (mention (at column) (codes "low")) None
 
+-- One state with this body.
 abbrev pub body : CommandList → StateList
 body cs = and_state (state_node (at 1) (mention (at 1) (codes "S")) (low 1) (command_block cs (at 90)) no_state) no_state
 
+-- One state with one command.
 abbrev pub only : Command → StateList
 only c = body (and_command c no_command)
 
@@ -62,9 +70,11 @@ WideNumber = design_name_faults levels below (record {
 abbrev pub UnknownPlain : Type 0
 UnknownPlain = tag_faults levels nothing (tag_at (at 1) (variable (spot (at 5)) (codes "zz"))) ≡ fault E7 5 ∷ fault E4 5 ∷ []
 
+-- An unknown name in parentheses, of which no width is asked, is E7 at the parenthesis and E4 at the name.
 abbrev pub UnknownInside : Type 0
 UnknownInside = tag_faults levels nothing (tag_at (at 1) (variable (inside 5 6) (codes "zz"))) ≡ fault E7 5 ∷ fault E4 6 ∷ []
 
+-- An unknown operand after a number is E7 at the number and E4 at its own place.
 abbrev pub UnknownBehind : Type 0
 UnknownBehind = tag_faults levels nothing (tag_at (at 1) (binary_of (inside 5 7) Add (literal (spot (at 5)) 1) (variable (spot (at 9)) (codes "zz"))))
     ≡ fault E7 5 ∷ fault E7 5 ∷ fault E7 9 ∷ fault E4 9 ∷ []

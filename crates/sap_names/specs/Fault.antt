@@ -6,6 +6,7 @@ pub use Rattle.sap_names.specs.declared.fault.Fault.{Fault}
 use Rattle.sap_names.specs.declared.kind.Code.{Code}
 use Rattle.sap_names.specs.declared.kind.Code.TheVariants.{E3, E4, E5, E6, E7, E8, E9, E10, E11, E12, E14, E15, E16, E17}
 
+-- The number of a code.
 abbrev pub number : Code → ℕ
 number E3 = 3
 number E4 = 4
@@ -28,6 +29,7 @@ Before a b = (a.place.line < b.place.line)
     ⊎ ((a.place.line ≡ b.place.line) × (a.place.column < b.place.column)
     ⊎ ((a.place.line ≡ b.place.line) × (a.place.column ≡ b.place.column) × (number a.code ≤ number b.code)))
 
+-- A fault comes before all of these.
 abbrev pub BeforeAll : Fault → List Fault → Type 0
 BeforeAll a fs = best.BeforeAll Before a fs
 

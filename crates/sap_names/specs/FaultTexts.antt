@@ -6,6 +6,7 @@ use Rattle.sap_names.specs.Fault.{number}
 use Rattle.sap_names.specs.declared.fault.CheckFault.{CheckFault}
 use Rattle.sap_names.specs.declared.fault.CheckFault.TheVariants.{Rule, Memory}
 
+-- The text of a fault of a design that isn't well formed.
 abbrev pub check_text : CheckFault → List ℕ
 check_text (Rule code place) = codes "E" ++ decimal (number code) ++ codes " " ++ place_text place
 check_text Memory = codes "memory"

@@ -59,10 +59,12 @@ fits_use u.Retagged (d.Register width) = true
 fits_use u.Retagged (d.Memory width depth) = false
 fits_use u.Retagged d.State = true
 
+-- A use of a name is E4 if nothing has the name, and E5 if what has it isn't of the kind that is used so.
 abbrev pub use_faults : Use → Option Declared → Place → List Fault
 use_faults how None place = fault_if true E4 place
 use_faults how (Some declared) place = fault_if (not (fits_use how declared)) E5 place
 
+-- The faults of a mentioned name, by how it is used.
 abbrev pub name_faults : Use → Lookup → Mention → List Fault
 name_faults how what m = use_faults how (what m.name) m.place
 
@@ -116,6 +118,7 @@ abbrev mutual
   parts_faults what no_part = []
   parts_faults what (and_part e parts) = expression_faults what e None ++ parts_faults what parts
 
+-- The faults of the constants of an arm, from which this width is asked.
 abbrev pub constants_faults : Lookup → (asked : Option ℕ) → Expressions → List Fault
 constants_faults what asked no_part = []
 constants_faults what asked (and_part e parts) = expression_faults what e asked ++ constants_faults what asked parts
@@ -130,9 +133,11 @@ not_below le (Some a) (Some b) = not (le a b)
 not_below le (Some a) None = false
 not_below le None b = false
 
+-- A name in the place of a level is E6 if no level has it.
 abbrev pub level_faults : List (List ℕ) → Mention → List Fault
 level_faults levels m = fault_if (not (is_level levels m.name)) E6 m.place
 
+-- The faults of a tag expression, and of the operands of a join.
 abbrev mutual
   pub tag_faults : List (List ℕ) → Lookup → TagExpression → List Fault
   tag_faults levels what (level_of m) = level_faults levels m
@@ -144,6 +149,7 @@ abbrev mutual
   tags_faults levels what no_tag = []
   tags_faults levels what (and_tag t parts) = tag_faults levels what t ++ tags_faults levels what parts
 
+-- The faults of names and widths of a step.
 abbrev pub simple_faults : List (List ℕ) → Lookup → SimpleCommand → List Fault
 simple_faults levels what (assign target e) =
     name_faults u.Assigned what target ++ expression_faults what e (register_width (what target.name))
@@ -159,6 +165,7 @@ simple_faults levels what (set_cell_tag place target index tag) =
 simple_faults levels what (go_to place target) = name_faults u.Entered what target
 simple_faults levels what (fall_to_child place) = []
 
+-- The faults of names and widths of a command and of all commands in it.
 abbrev mutual
   pub command_faults : List (List ℕ) → Lookup → Command → List Fault
   command_faults levels what (lone k) = simple_faults levels what k
@@ -193,17 +200,21 @@ under_faults levels le level (Some under) =
     level_faults levels under.level
     ++ fault_if (not_below le (level_named levels under.level.name) (level_named levels level.name)) E9 level.place
 
+-- The faults of a kind: its level, and its authority if it is written.
 abbrev pub kind_faults : List (List ℕ) → (le : ℕ → ℕ → Bool) → Kind → List Fault
 kind_faults levels le (Dynamic place) = []
 kind_faults levels le (Enforced level under) = level_faults levels level ++ under_faults levels le level under
 
+-- A width that isn't from 1 to 64 is E7.
 abbrev pub width_faults : Numeral → List Fault
 width_faults width = fault_if (not (is_sound (sound_width width.value))) E7 width.place
 
+-- A start number that doesn't fit its register's width is E8.
 abbrev pub start_faults : ℕ → Option Numeral → List Fault
 start_faults width None = []
 start_faults width (Some start) = fault_if (too_large (sound_width width) start.value) E8 start.place
 
+-- The faults of a declaration.
 abbrev pub declaration_faults : List (List ℕ) → (le : ℕ → ℕ → Bool) → Decl → List Fault
 declaration_faults levels le (Input place name width) = width_faults width
 declaration_faults levels le (Register place name width kind start) =
@@ -213,10 +224,12 @@ declaration_faults levels le (Memory place name width depth kind) =
     ++ fault_if (not (is_sound (index_bits depth.value))) E7 depth.place
     ++ kind_faults levels le kind
 
+-- The faults of the declarations of a design.
 abbrev pub declarations_faults : List (List ℕ) → (le : ℕ → ℕ → Bool) → List Decl → List Fault
 declarations_faults levels le [] = []
 declarations_faults levels le (d ∷ ds) = declaration_faults levels le d ++ declarations_faults levels le ds
 
+-- The faults of a state: of its kind, its body and its children.
 abbrev mutual
   pub state_faults : List (List ℕ) → (le : ℕ → ℕ → Bool) → Lookup → StateTree → List Fault
   state_faults levels le what (state_node place name kind body children) =

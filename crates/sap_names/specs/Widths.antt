@@ -20,6 +20,7 @@ abbrev pub bits_up_to : ℕ → ℕ → Option ℕ
 bits_up_to zero depth = None
 bits_up_to (suc b) depth = if eqb depth (2 ^ suc b) then Some (suc b) else bits_up_to b depth
 
+-- The width of the index of a memory: b bits for 2 to the b cells, with b from 1 to 12.
 abbrev pub index_bits : ℕ → Option ℕ
 index_bits depth = bits_up_to 12 depth
 
@@ -47,6 +48,7 @@ cell_width (Some (Register width)) = None
 cell_width (Some (Memory width depth)) = sound_width width
 cell_width (Some State) = None
 
+-- The width of the index of what has a name, if it is a memory.
 abbrev pub index_width : Option Declared → Option ℕ
 index_width None = None
 index_width (Some (Input width)) = None
@@ -54,14 +56,17 @@ index_width (Some (Register width)) = None
 index_width (Some (Memory width depth)) = index_bits depth
 index_width (Some State) = None
 
+-- The first width if there is one, else the second.
 abbrev pub else_of : Option ℕ → Option ℕ → Option ℕ
 else_of None other = other
 else_of (Some w) other = Some w
 
+-- The width of a zero extension: no less than that of its operand, and at most 64.
 abbrev pub extended : Option ℕ → ℕ → Option ℕ
 extended None width = None
 extended (Some w) width = if leb w width && leb width 64 then Some width else None
 
+-- The width of a slice that lies within its operand.
 abbrev pub sliced : Option ℕ → ℕ → ℕ → Option ℕ
 sliced None high low = None
 sliced (Some w) high low = if leb low high && ltb high w then Some (high - low + 1) else None
@@ -72,6 +77,7 @@ joined None other = None
 joined (Some w) None = None
 joined (Some w) (Some u) = if leb (w + u) 64 then Some (w + u) else None
 
+-- Which of three rules on widths a binary operator follows.
 abbrev pub family : BinaryOperator → Family
 family Or = Arithmetic
 family Xor = Arithmetic
@@ -100,6 +106,7 @@ is_reduction AllOnes = true
 is_reduction AnyOne = true
 is_reduction Odd = true
 
+-- The own width of an expression, which its parts give, if they give one.
 abbrev mutual
   pub own : Lookup → Expression → Option ℕ
   own what (literal spot value) = None
@@ -128,15 +135,18 @@ asked_left Arithmetic whole left right = whole
 asked_left Shift whole left right = whole
 asked_left Comparison whole left right = else_of left right
 
+-- A shift count that has no own width is asked for 64 bits.
 abbrev pub asked_count : Option ℕ → Option ℕ
 asked_count None = Some 64
 asked_count (Some w) = None
 
+-- The width that is asked from the right operand of a binary operator.
 abbrev pub asked_right : Family → (whole left right : Option ℕ) → Option ℕ
 asked_right Arithmetic whole left right = whole
 asked_right Shift whole left right = asked_count right
 asked_right Comparison whole left right = else_of left right
 
+-- The width that is asked from the operand of a unary operator.
 abbrev pub asked_one : UnaryOperator → Option ℕ → Option ℕ
 asked_one operator whole = if is_reduction operator then None else whole
 

@@ -10,18 +10,23 @@ use Rattle.sap_net.specs.Net.{Net}
 use Rattle.sap_net.specs.Names.{is_name, is_among, AreDistinct}
 use Rattle.sap_net.specs.Rules.{Shapes, AreWires, readable_after, IsRegister, IsMemory, AreValues, AreMemories}
 
+-- The names of the inputs.
 abbrev pub input_names : Net → List Name
 input_names n = map (λ x. x.name) n.inputs
 
+-- The names of wires.
 abbrev pub names_of : List Wire → List Name
 names_of ws = map (λ w. w.name) ws
 
+-- The names of the wires.
 abbrev pub wire_names : Net → List Name
 wire_names n = names_of n.wires
 
+-- The names of the registers.
 abbrev pub register_names : Net → List Name
 register_names n = map (λ x. x.name) n.registers
 
+-- The names of the memories.
 abbrev pub memory_names : Net → List Name
 memory_names n = map (λ x. x.name) n.memories
 
@@ -33,6 +38,7 @@ first_readable n = map (λ x. (x.name, x.width)) n.inputs ++ map (λ x. (x.name,
 abbrev pub readable : Net → Scope
 readable n = readable_after (first_readable n) n.wires
 
+-- Width and depth of each memory, by its name.
 abbrev pub shapes : Net → Shapes
 shapes n = map (λ x. (x.name, (x.width, x.depth))) n.memories
 
@@ -46,11 +52,14 @@ PortShows n kind.Input x = is_among x (input_names n) ≡ true
 PortShows n kind.Register x = is_among x (register_names n) ≡ true
 PortShows n kind.Wire x = is_among x (wire_names n) ≡ true
 
+-- The kind of an input port.
 abbrev pub is_input : PortKind → Bool
 is_input kind.Input = true
 is_input kind.Register = false
 is_input kind.Wire = false
 
+-- A net is a netlist: names are declared once and in order, ports come first, each operand has its width and is
+-- readable where it is read, and no start is past its width.
 pub record IsNetlist (n : Net) : Type 0 where
   -- names
   pub module_named : is_name n.module_name ≡ true

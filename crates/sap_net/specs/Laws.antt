@@ -24,10 +24,12 @@ SomeRun n = (xss : List (List ℕ)) → AllFit n.inputs xss → (vs : List Valua
 abbrev pub OneRun : Net → Type 0
 OneRun n = (xss : List (List ℕ)) (vs ws : List Valuation) → IsRun n xss vs → IsRun n xss ws → AreSameRuns n vs ws
 
+-- The cycle before, if there was one, keeps within the net's widths.
 abbrev pub WithinBefore : Net → Option Valuation → Type 0
 WithinBefore n None = Unit {0}
 WithinBefore n (Some p) = IsWithin n p
 
+-- Two cycles before are both missing, or both there and the same on the net.
 abbrev pub SameBefore : Net → Option Valuation → Option Valuation → Type 0
 SameBefore n None None = Unit {0}
 SameBefore n None (Some q) = ⊥

@@ -8,6 +8,7 @@ use Rattle.std.specs.declared.vec.Vec.{Vec}
 use Rattle.std.specs.declared.alloc.Global.{Global}
 use Rattle.sap_maps.specs.Maps.{Name}
 
+-- A map by names.
 abbrev pub NameMap : Type 0 → Type 0
 NameMap X = HashMap (Vec ℕ Global) X (BuildHasherDefault FoldHasher)
 
@@ -28,5 +29,6 @@ place_in (x ∷ xs) n = if bytes_eq x n then Some zero else option_map suc (plac
 abbrev pub AtPlaces : (at : Name → Option ℕ) → List Name → Type 0
 AtPlaces at names = (n : Name) → at n ≡ place_in names n
 
+-- The map gives each of the names its place in the list.
 abbrev pub Indexes : NameMap ℕ → List Name → Type 0
 Indexes m names = AtPlaces (at_name m) names

@@ -25,9 +25,11 @@ keywords =
     ∷ codes "i"
     ∷ []
 
+-- The text is a keyword of the module's language.
 abbrev pub is_keyword : List ℕ → Bool
 is_keyword name = is_among name keywords
 
+-- The text is a word and no keyword.
 unfoldable pub is_name : List ℕ → Bool
 is_name name = is_word name && not (is_keyword name)
 
@@ -40,5 +42,6 @@ AreDistinct (x ∷ xs) = (is_among x xs ≡ false) × AreDistinct xs
 unfoldable pub helper : ℕ → Name
 helper k = byte "n" ∷ decimal k
 
+-- The name is `n` and a number.
 abbrev pub IsHelpingName : Name → Type 0
 IsHelpingName x = (k : ℕ) × (x ≡ helper k)

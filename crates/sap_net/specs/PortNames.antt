@@ -8,6 +8,7 @@ use Rattle.sap_maps.specs.Maps.{Name}
 abbrev pub value_name : Name → Name
 value_name x = codes "v_" ++ x
 
+-- The name of the port that shows the tag of x.
 abbrev pub tag_name : Name → Name
 tag_name x = codes "t_" ++ x
 
@@ -15,6 +16,7 @@ tag_name x = codes "t_" ++ x
 abbrev pub seat_name : Name → Name
 seat_name x = codes "s_" ++ x
 
+-- The name of the register that holds the current state at the root.
 abbrev pub root_seat : Name
 root_seat = codes "s_0"
 
@@ -22,9 +24,11 @@ root_seat = codes "s_0"
 abbrev pub refused_name : ℕ → Name
 refused_name k = codes "c_" ++ decimal k
 
+-- The name of the wire that shows the level of a refusal at site k.
 abbrev pub refused_level_name : ℕ → Name
 refused_level_name k = codes "l_" ++ decimal k
 
+-- The name of a compiled module.
 abbrev pub top_name : Name
 top_name = codes "top"
 

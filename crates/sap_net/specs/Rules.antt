@@ -51,9 +51,12 @@ abbrev pub readable_after : Scope → List Wire → Scope
 readable_after readable [] = readable
 readable_after readable (w ∷ ws) = readable_after ((w.name, w.width) ∷ readable) ws
 
+-- The register's start fits its width, and its next operand is readable and as wide.
 abbrev pub IsRegister : (readable : Scope) → Register → Type 0
 IsRegister readable r = (r.start < 2 ^ r.width) × IsOperand readable r.width r.next
 
+-- A memory's depth is a power of two, its start fits, and its write port has a condition of one bit, an index of its
+-- depth and a value of its width.
 pub record IsMemory (readable : Scope) (m : Memory) : Type 0 where
   pub bits : ℕ
   pub depth : IsDepth m.depth bits

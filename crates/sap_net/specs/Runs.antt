@@ -67,9 +67,11 @@ IsRunAfter n before [] (v ∷ vs) = ⊥
 IsRunAfter n before (xs ∷ xss) [] = ⊥
 IsRunAfter n before (xs ∷ xss) (v ∷ vs) = IsCycle n before xs v × IsRunAfter n (Some v) xss vs
 
+-- The valuations are those of a run from power-up on the rows of inputs.
 abbrev pub IsRun : Net → List (List ℕ) → List Valuation → Type 0
 IsRun n xss vs = IsRunAfter n None xss vs
 
+-- Each row of inputs fits the inputs' count and widths.
 abbrev pub AllFit : List Input → List (List ℕ) → Type 0
 AllFit is xss = AllByRecursion (InputsFit is) xss
 
@@ -78,10 +80,12 @@ abbrev pub value_after : Valuation → Name → Option Operand → ℕ
 value_after v x None = v.value x
 value_after v x (Some next) = operand_value v next
 
+-- The number of a cell after a clock edge: what the write port writes, else what was there.
 abbrev pub cell_after : Valuation → Name → (i : ℕ) → Option Memory → ℕ
 cell_after v x i None = v.cell x i
 cell_after v x i (Some m) = written v m i
 
+-- What stands after the clock edge of a cycle: each register its next number, each cell what was written.
 abbrev pub observed : Net → Valuation → Valuation
 observed n v =
     record {

@@ -9,6 +9,7 @@ use Rattle.sap_net.specs.Net.{Net}
 use Rattle.sap_net.specs.IsNetlist.{width_of}
 use Rattle.sap_net.specs.PortNames.{value_of, is_number, tag_name}
 
+-- The kind of a port that shows a register.
 abbrev pub is_register : PortKind → Bool
 is_register kind.Input = false
 is_register kind.Register = true
@@ -26,6 +27,7 @@ port_widths n = map (λ x. (x, width_of n x)) (register_ports n.ports)
 abbrev pub has_tag : (tag : ℕ) → (widths : Scope) → Name → Bool
 has_tag tag widths x = is_number tag (find widths (tag_name x))
 
+-- The name, where it has a tag beside it.
 abbrev pub shown_by : (tag : ℕ) → (widths : Scope) → Option Name → List Name
 shown_by tag widths None = []
 shown_by tag widths (Some x) = if has_tag tag widths x then x ∷ [] else []

@@ -9,6 +9,7 @@ use Rattle.sap_net.specs.declared.parts.Right.{Right}
 use Rattle.sap_net.specs.declared.parts.Right.TheVariants.{Copy, One, Two, Choose, Concat, Slice, Cell}
 use Rattle.sap_net.specs.declared.parts.Wire.{Wire}
 
+-- The number of an operand: that of the name, or the constant's.
 abbrev pub operand_value : Valuation → Operand → ℕ
 operand_value v (Named x) = v.value x
 operand_value v (Constant w n) = n
@@ -18,6 +19,7 @@ abbrev pub operand_width : (widths : Name → ℕ) → Operand → ℕ
 operand_width widths (Named x) = widths x
 operand_width widths (Constant w n) = w
 
+-- The sum of the operands' widths.
 abbrev pub operands_width : (widths : Name → ℕ) → List Operand → ℕ
 operands_width widths [] = 0
 operands_width widths (o ∷ os) = operand_width widths o + operands_width widths os
@@ -27,6 +29,7 @@ abbrev pub operands_value : (widths : Name → ℕ) → Valuation → List Opera
 operands_value widths v [] = 0
 operands_value widths v (o ∷ os) = joined (operand_value v o) (operands_width widths os) (operands_value widths v os)
 
+-- The number of a right side.
 abbrev pub right_value : (widths : Name → ℕ) → Valuation → Right → ℕ
 right_value widths v (Copy a) = operand_value v a
 right_value widths v (One op a) = value1 op (operand_width widths a) (operand_value v a)

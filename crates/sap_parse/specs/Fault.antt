@@ -18,6 +18,7 @@ pub record Spells (ts : List Token) (d : DesignTree) (first : Option (ℕ × Lim
 abbrev pub IsDesign : List Token → DesignTree → Type 0
 IsDesign ts d = Spells ts d None
 
+-- The tokens spell some design, which breaks this limit first, or none.
 abbrev pub SpellsSome : List Token → Option (ℕ × Limit) → Type 0
 SpellsSome ts first = (d : DesignTree) × Spells ts d first
 

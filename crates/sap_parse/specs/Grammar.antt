@@ -24,6 +24,7 @@ use Rattle.sap_tree.specs.declared.version.Version.{Version}
 
 -- operators
 
+-- The sign of a binary operator.
 abbrev pub sign_of : BinaryOperator → Sign
 sign_of b.Or = s.Bar
 sign_of b.Xor = s.Caret
@@ -38,6 +39,7 @@ sign_of b.Add = s.Plus
 sign_of b.Sub = s.Minus
 sign_of b.Mul = s.Star
 
+-- The sign of a unary operator.
 abbrev pub unary_sign_of : UnaryOperator → Sign
 unary_sign_of u.Not = s.Tilde
 unary_sign_of u.Neg = s.Minus

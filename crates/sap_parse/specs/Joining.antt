@@ -12,6 +12,7 @@ use Rattle.sap_tree.specs.declared.syntax.Expr.{Expr}
 use Rattle.sap_tree.specs.declared.syntax.State.{State}
 use Rattle.sap_tree.specs.declared.syntax.TagExpr.{TagExpr}
 
+-- The parts of one list of expressions, and then those of another.
 abbrev pub join : t.Expressions → t.Expressions → t.Expressions
 join t.no_part ys = ys
 join (t.and_part x xs) ys = t.and_part x (join xs ys)
@@ -31,6 +32,7 @@ pub data Slices (spot : Spot) (of : t.Expression) : Stage → t.Expression → S
       → IsNumber p1 r.Inner high p2 → IsSign p2 r.Inner s.Colon p3 → IsNumber p3 r.Inner low p4 → IsSign p4 r.Closing s.CloseBracket p5
       → g.Cuts (t.slice spot of high low) p5 x q → Slices spot of p1 x q
 
+-- The parts of one list of tag expressions, and then those of another.
 abbrev pub join_tags : t.TagExpressions → t.TagExpressions → t.TagExpressions
 join_tags t.no_tag ys = ys
 join_tags (t.and_tag x xs) ys = t.and_tag x (join_tags xs ys)
@@ -39,6 +41,7 @@ join_tags (t.and_tag x xs) ys = t.and_tag x (join_tags xs ys)
 abbrev pub CollectsTags : Stage → List TagExpr → List TagExpr → Stage → Type 0
 CollectsTags old before after new = (xs : t.TagExpressions) × (tags_of after ≡ join_tags (tags_of before) xs) × g.Texprs old xs new
 
+-- The commands of one list, and then those of another.
 abbrev pub join_commands : t.CommandList → t.CommandList → t.CommandList
 join_commands t.no_command ys = ys
 join_commands (t.and_command x xs) ys = t.and_command x (join_commands xs ys)
@@ -51,6 +54,7 @@ CollectsConstants old before after new = (xs : t.Expressions) × (expressions_of
 abbrev pub CollectsArms : (depth : ℕ) → Stage → List Arm → List Arm → (last : t.CommandBlock) → Stage → Type 0
 CollectsArms depth old before after last new = (xs : t.Arms) × (arms_of after last ≡ arms_before before xs) × g.Arms depth old xs new
 
+-- The states of one list, and then those of another.
 abbrev pub join_states : t.StateList → t.StateList → t.StateList
 join_states t.no_state ys = ys
 join_states (t.and_state x xs) ys = t.and_state x (join_states xs ys)

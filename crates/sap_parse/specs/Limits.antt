@@ -24,6 +24,7 @@ pub record Counts : Type 0 where
   pub tokens : ℕ
   pub brackets : ℕ
 
+-- Nothing has been counted before the first token.
 abbrev pub none_yet : Counts
 none_yet = record { inputs = 0; registers = 0; memories = 0; states = 0; commands = 0; tokens = 0; brackets = 0 }
 
@@ -31,6 +32,7 @@ none_yet = record { inputs = 0; registers = 0; memories = 0; states = 0; command
 abbrev pub outside : Counts → Counts
 outside c = record c { tokens = 0; brackets = 0 }
 
+-- The counts after one more token, by its role.
 abbrev pub tally : Counts → Role → Token → Counts
 tally c r.Plain t = outside c
 tally c r.Input t = record (outside c) { inputs = c.inputs + 1 }
@@ -47,14 +49,17 @@ abbrev pub above : ℕ → ℕ → Limit → Option Limit
 above most n limit = if nat_lt most n then Some limit else None
 
 infixr 12 ◌or_else◌
+-- The first limit if there is one, else the second.
 abbrev pub ◌or_else◌ : Option Limit → Option Limit → Option Limit
 (Some limit) or_else other = Some limit
 None or_else other = other
 
+-- A name that is longer than a name may be breaks a limit.
 abbrev pub breach_of_name : Kind → Option Limit
 breach_of_name (k.Name name) = above most_name_bytes (length name) l.Name
 breach_of_name _ = None
 
+-- The limit on counts that a token in this role breaks, if it breaks one.
 abbrev pub breach_of_role : Counts → Role → Option Limit
 breach_of_role c r.Plain = None
 breach_of_role c r.Input = above most_inputs (c.inputs + 1) l.Inputs

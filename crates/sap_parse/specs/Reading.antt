@@ -22,6 +22,7 @@ stage_at ts n counts = record { past = record { before = n; counts = counts; fir
 
 -- what kind of token stands at the front
 
+-- What the reader looks at of the next token: its word or sign, or that it is a name or a number.
 abbrev pub ahead_of : Kind → Ahead
 ahead_of (k.Word word) = a.Word word
 ahead_of (k.Sign sign) = a.Sign sign
@@ -29,6 +30,7 @@ ahead_of (k.Name name) = a.Name
 ahead_of (k.Number n) = a.Number
 ahead_of (k.Sized width n) = a.Sized
 
+-- What the reader looks at of the tokens that are left.
 unfoldable pub ahead : List Token → Ahead
 ahead [] = a.Nothing
 ahead (t ∷ ts) = ahead_of t.kind
@@ -40,9 +42,11 @@ second (t ∷ ts) = ahead ts
 
 -- the walk by the table of the design grammar; `enter` says how a token is gone past
 
+-- How a token is taken: what is counted after it, or the limit that it breaks.
 abbrev pub Enter : Type 0
 Enter = Role → Token → Past Counts Limit → Result (Past Counts Limit) Limit
 
+-- The design grammar as a table for the walk, with this way of taking tokens.
 abbrev pub table : Enter → walk.Table
 table enter = record {
   Symbol = Symbol;
@@ -55,24 +59,30 @@ table enter = record {
   enter = enter;
 }
 
+-- The stage after a symbol, or why the walk came to a halt.
 abbrev pub Outcome : Type 0
 Outcome = Result Stage (walk.Halt Stage Limit)
 
+-- What taking one symbol at a stage comes to.
 unfoldable pub read_by : Enter → Symbol → Stage → Outcome
 read_by enter s p = walk.read (table enter) s p
 
+-- What taking several symbols, one after another, comes to.
 abbrev pub steps_by : Enter → List Symbol → Stage → Outcome
 steps_by enter [] p = Ok p
 steps_by enter (s ∷ σ) p = read_by enter s p >>= steps_by enter σ
 
 -- the walk that stops where a limit is broken, and the one that goes past each
 
+-- A token that breaks a limit isn't taken.
 unfoldable pub strictly : Enter
 strictly role t past = unless_broken (breach past.counts role t) (passed tally breach role t past)
 
+-- A token is taken, whatever limit it breaks.
 unfoldable pub leniently : Enter
 leniently role t past = Ok (passed tally breach role t past)
 
+-- What taking one symbol comes to, if a broken limit ends the walk.
 abbrev pub reads : Symbol → Stage → Outcome
 reads = read_by strictly
 
@@ -108,26 +118,32 @@ IsBroken old role new f.Memory = ⊥
 
 -- the number that stands at the front, the name, and the number with a width
 
+-- The number that a token is, if it is one.
 abbrev pub number_in : Kind → Option ℕ
 number_in (k.Number n) = Some n
 number_in kind = None
 
+-- The number that the next token is, if it is one.
 unfoldable pub front_number : List Token → Option ℕ
 front_number [] = None
 front_number (t ∷ ts) = number_in t.kind
 
+-- The name that a token is, if it is one.
 abbrev pub name_in : Kind → Option (List ℕ)
 name_in (k.Name name) = Some name
 name_in kind = None
 
+-- The name that the next token is, if it is one.
 unfoldable pub front_name : List Token → Option (List ℕ)
 front_name [] = None
 front_name (t ∷ ts) = name_in t.kind
 
+-- The width and the number that a sized number is, if the token is one.
 abbrev pub sized_in : Kind → Option (ℕ × ℕ)
 sized_in (k.Sized width n) = Some (width, n)
 sized_in kind = None
 
+-- The width and the number that the next token is, if it is a sized number.
 unfoldable pub front_sized : List Token → Option (ℕ × ℕ)
 front_sized [] = None
 front_sized (t ∷ ts) = sized_in t.kind

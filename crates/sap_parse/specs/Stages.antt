@@ -30,18 +30,23 @@ pub record IsToken (p : Stage) (role : Role) (kind : Kind) (q : Stage) : Type 0 
   pub past : q.past ≡ passed tally breach role token p.past
   pub is : token.kind ≡ kind
 
+-- The token between two stages is this sign.
 abbrev pub IsSign : Stage → Role → Sign → Stage → Type 0
 IsSign p role sign q = IsToken p role (k.Sign sign) q
 
+-- The token between two stages is this keyword.
 abbrev pub IsWord : Stage → Role → Word → Stage → Type 0
 IsWord p role word q = IsToken p role (k.Word word) q
 
+-- The token between two stages is this name.
 abbrev pub IsName : Stage → Role → List ℕ → Stage → Type 0
 IsName p role name q = IsToken p role (k.Name name) q
 
+-- The token between two stages is this number.
 abbrev pub IsNumber : Stage → Role → ℕ → Stage → Type 0
 IsNumber p role n q = IsToken p role (k.Number n) q
 
+-- The token between two stages is this number with this width.
 abbrev pub IsSized : Stage → Role → ℕ → ℕ → Stage → Type 0
 IsSized p role width n q = IsToken p role (k.Sized width n) q
 

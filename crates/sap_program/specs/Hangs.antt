@@ -8,10 +8,12 @@ abbrev pub rises_from : ℕ → List ℕ → Bool
 rises_from x [] = true
 rises_from x (y ∷ ys) = nat_lt x y && rises_from y ys
 
+-- The numbers of a list rise: each is above the one before.
 abbrev pub rises : List ℕ → Bool
 rises [] = true
 rises (x ∷ xs) = rises_from x xs
 
+-- The list has the number.
 abbrev pub hangs : List ℕ → ℕ → Bool
 hangs ys x = list_any (λ y. nat_eq y x) ys
 

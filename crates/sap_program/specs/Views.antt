@@ -22,15 +22,18 @@ use Rattle.sap_program.specs.declared.program.Command.TheVariants as command
 use Rattle.sap_program.specs.declared.home.Home.{Home}
 use Rattle.sap_program.specs.declared.program.State.{State, State', Row_of-State, end_of-State, more_of-State}
 
+-- The kind of an entity that a sort stands for.
 abbrev pub kind_of_sort : Sort → program.Kind
 kind_of_sort sort.Input = program.input
 kind_of_sort sort.Register = program.register
 kind_of_sort (sort.Memory depth) = program.memory depth
 kind_of_sort (sort.State place last) = program.state place last
 
+-- The entity that a stored entity stands for.
 abbrev pub entity_of : Entity → program.Entity
 entity_of e = record { kind = kind_of_sort e.sort; width = e.width; dynamic = e.dynamic; declared = e.declared; authority = e.authority; initial = e.initial }
 
+-- The term that a stored number stands for.
 abbrev pub term_of : Number → Term ℕ
 term_of (number.Constant u n) = constant u n
 term_of (number.Read x) = read x
@@ -41,12 +44,14 @@ term_of (number.Choose' p c q a r b) = choose (term_of c) (term_of a) (term_of b
 term_of (number.Join' p a q b) = join (term_of a) (term_of b)
 term_of (number.Part' p a hi lo) = part (term_of a) hi lo
 
+-- The level's term that a stored tag stands for.
 abbrev pub level_of : TagOf → LevelTerm
 level_of (tag.Fixed l) = fixed l
 level_of (tag.Of e) = of (term_of e)
 level_of (tag.AtPlace e) = at_place (term_of e)
 level_of (tag.Both' p a q b) = both (level_of a) (level_of b)
 
+-- The step that a stored step stands for.
 abbrev pub step_of : (n : ℕ) → Step → program.Step
 step_of n (step.Set k x e) = program.assign k x (term_of e)
 step_of n (step.Write k m i e) = program.write k m (term_of i) (term_of e)
@@ -72,21 +77,26 @@ unfoldable mutual
   row_block n end_of-Command = end_block
   row_block n (more_of-Command c rest) = command_then (command_of n c) (row_block n rest)
 
+-- The block that stored commands stand for.
 unfoldable pub block_of : (n : ℕ) → List Command → Block
 block_of n [] = end_block
 block_of n (c ∷ cs) = command_then (command_of n c) (block_of n cs)
 
 -- the constants of an arm, and its commands
 
+-- The constants of an arm.
 abbrev pub constants_of : Arm → List ℕ
 constants_of arm = arm.constants.items
 
+-- The commands of an arm.
 abbrev pub commands_in : Arm → List Command
 commands_in arm = arm.block.items
 
+-- The block that an arm's commands stand for.
 abbrev pub arm_block : (n : ℕ) → Arm → Block
 arm_block n arm = block_of n arm.block.items
 
+-- The arms of a list, in front of others.
 unfoldable pub arms_before : (n : ℕ) → List Arm → Arms → Arms
 arms_before n [] others = others
 arms_before n (arm ∷ arms) others = program.and_arm (constants_of arm) (arm_block n arm) (arms_before n arms others)
@@ -99,6 +109,7 @@ unfoldable mutual
   row_group n end_of-State = no_node
   row_group n (more_of-State s rest) = and_node (state_of n s) (row_group n rest)
 
+-- The children that a list of stored states stands for.
 unfoldable pub group_of : (n : ℕ) → List State → Group
 group_of n [] = no_node
 group_of n (s ∷ ss) = and_node (state_of n s) (group_of n ss)
@@ -125,6 +136,7 @@ count p = length p.entities.items
 abbrev pub entity_in : Program → ℕ → program.Entity
 entity_in p x = get_or (map entity_of p.entities.items) x program.nothing
 
+-- The names of the entities.
 abbrev pub names_in : Program → List (List ℕ)
 names_in p = map (λ e. e.name) p.entities.items
 

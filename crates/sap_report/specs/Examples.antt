@@ -33,6 +33,7 @@ assigns_under_if = record {
       (command_block (and_command choosing (and_command (lone (go_to (on 5 3) (mention (on 5 8) (codes "S")))) no_command)) (on 6 1)) no_state) no_state;
 }
 
+-- The report of a design with one `if`.
 abbrev pub OnePoint : Type 0
 OnePoint = report_text four_levels assigns_under_if
     ≡ line (codes "level low 0") ++ line (codes "level a 2") ++ line (codes "level b 1") ++ line (codes "level high 3")
@@ -55,6 +56,7 @@ staying = record {
       (command_block (and_command (lone (go_to (on 1 24) (mention (on 1 29) (codes "S")))) no_command) (on 1 32)) no_state) no_state;
 }
 
+-- The report of a design over five levels.
 abbrev pub FiveLevels : Type 0
 FiveLevels = report_text five_levels staying
     ≡ line (codes "level bot 0") ++ line (codes "level p 4") ++ line (codes "level q 5") ++ line (codes "level r 3") ++ line (codes "level top 7")

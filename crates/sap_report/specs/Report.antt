@@ -22,6 +22,7 @@ use Rattle.sap_hang.specs.Hang.{hangs}
 abbrev pub level_line : (name : List ℕ) → (code : ℕ) → List ℕ
 level_line name code = codes "level " ++ name ++ codes " " ++ decimal code ++ line_end
 
+-- The lines of the levels with their codes.
 abbrev pub level_lines : Levels → (l : ℕ) → (names : List (List ℕ)) → List ℕ
 level_lines ls l [] = []
 level_lines ls l (name ∷ names) = level_line name (code_of (order_of ls) l) ++ level_lines ls (l + 1) names
@@ -44,6 +45,7 @@ abbrev pub names_text : List (List ℕ) → List ℕ
 names_text [] = codes " -"
 names_text (name ∷ names) = each_name (name ∷ names)
 
+-- The word for a kind of point.
 abbrev pub point_word : PointKind → List ℕ
 point_word points.If = codes "if"
 point_word points.Otherwise = codes "otherwise"
@@ -55,10 +57,12 @@ point_word points.Case = codes "case"
 abbrev pub point_line : Point → (names : List (List ℕ)) → List ℕ
 point_line q names = point_word q.kind ++ codes " " ++ place_text q.place ++ codes " hangs" ++ names_text names ++ line_end
 
+-- The lines of the points with what hangs on each.
 abbrev pub point_lines : DesignTree → (p : ℕ) → List Point → List ℕ
 point_lines d p [] = []
 point_lines d p (q ∷ qs) = point_line q (hanging d p 0 (entities_of d)) ++ point_lines d (p + 1) qs
 
+-- The head of a site's line: its number and its place.
 unfoldable pub site_head : (k : ℕ) → Place → List ℕ
 site_head k place = codes "site " ++ decimal k ++ codes " " ++ place_text place ++ codes " "
 
@@ -66,6 +70,7 @@ site_head k place = codes "site " ++ decimal k ++ codes " " ++ place_text place 
 abbrev pub site_line : List Entity → (k : ℕ) → Site → List ℕ
 site_line es k s = site_head k s.place ++ site_target es s ++ line_end
 
+-- The lines of the sites.
 abbrev pub site_lines : List Entity → (k : ℕ) → List Site → List ℕ
 site_lines es k [] = []
 site_lines es k (s ∷ ss) = site_line es k s ++ site_lines es (k + 1) ss

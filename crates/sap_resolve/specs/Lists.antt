@@ -32,9 +32,11 @@ arms_from ls h k (arm ∷ arms) last =
     program.and_arm (resolve.numbers_of (constants_of arm)) (resolve.block_of ls h k (arm_block_of arm))
     (arms_from ls h (k + length (sites.block_sites h (arm_block_of arm))) arms last)
 
+-- How many check sites the blocks of arms have.
 unfoldable pub arms_site_count : Surroundings → List Arm → ℕ
 arms_site_count h arms = length (shape_lists.arms_sites h arms)
 
+-- The numbers of a list of constants.
 unfoldable pub numbers_of : List Expr → List ℕ
 numbers_of es = resolve.numbers_of (expressions_of es)
 
@@ -42,9 +44,11 @@ numbers_of es = resolve.numbers_of (expressions_of es)
 unfoldable pub group_from : Levels → List Entity → (k x : ℕ) → List State → Group
 group_from ls es k x ss = resolve.group_of ls es k x (states_of ss)
 
+-- How many check sites a group of states has.
 unfoldable pub group_site_count : List Entity → List State → ℕ
 group_site_count es ss = length (shape_lists.group_sites es ss)
 
+-- How many states a group has, with their descendants.
 unfoldable pub states_below : List State → ℕ
 states_below ss = worlds.states_below (states_of ss)
 
@@ -56,11 +60,14 @@ group_entities ls n x ss = worlds.group_entities ls n x (states_of ss)
 abbrev pub names_of : List Entity → List (List ℕ)
 names_of es = map (λ e. e.name.name) es
 
+-- The names of these entities.
 abbrev pub own_names : List code.Entity → List (List ℕ)
 own_names es = map (λ e. e.name) es
 
+-- The names of a group's states and of their descendants.
 unfoldable pub group_names : List State → List (List ℕ)
 group_names ss = names_of (names.group_entities (states_of ss))
 
+-- How many children each state of a group and each descendant has.
 unfoldable pub group_children : List State → List ℕ
 group_children ss = worlds.group_children (states_of ss)

@@ -14,11 +14,13 @@ Rows = ℕ → List Bool
 abbrev pub rows_in : (n : ℕ) → Table → Rows
 rows_in n t point = table n (says t point)
 
+-- Which entities the root touches, as a list over their numbers.
 abbrev pub root_row_in : (n : ℕ) → Table → List Bool
 root_row_in n t = table n (says_of_root t)
 
 -- how many points there are
 
+-- How many points a step is: a `fall` is one, another step none.
 abbrev pub step_points : Step → ℕ
 step_points (assign site x e) = 0
 step_points (write site m i e) = 0
@@ -27,6 +29,7 @@ step_points (retag_cell site m j n) = 0
 step_points (go_to site target) = 0
 step_points (fall_to_child site hang) = 1
 
+-- How many points a command is, with those in its blocks.
 abbrev pub own_points : Command → (below : ℕ) → ℕ
 own_points (lone k) below = step_points k
 own_points (try k hang handler) below = step_points k + 1 + below
@@ -34,23 +37,29 @@ own_points (if_else hang condition a b) below = 1 + below
 own_points (try_then k hang a b) below = step_points k + 1 + below
 own_points (case_of hang e arms) below = 1 + below
 
+-- How many points a command and all commands in it are.
 abbrev pub command_points : Command → ℕ
 command_points c = folded 0 ◌+◌ own_points c
 
+-- How many points are in the arms of a `case`.
 abbrev pub arms_points : Arms → ℕ
 arms_points arms = folded_in_arms 0 ◌+◌ own_points arms
 
+-- How many points are in a block.
 abbrev pub block_points : Block → ℕ
 block_points b = folded_in_block 0 ◌+◌ own_points b
 
+-- How many points are in a state's body and in those of its descendants.
 abbrev pub state_points : State → ℕ
 state_points s = gathered_from 0 ◌+◌ (λ t. block_points (body_of t)) s
 
+-- How many points are in the bodies of a group of states.
 abbrev pub group_points : Group → ℕ
 group_points g = gathered_from_group 0 ◌+◌ (λ t. block_points (body_of t)) g
 
 -- with these rows at its points, of which the first has the number p
 
+-- A step with its list, if it has one; the list of a point is found by the point's number.
 abbrev pub step_with : Rows → (p : ℕ) → Step → Step
 step_with r p (assign site x e) = assign site x e
 step_with r p (write site m i e) = write site m i e
@@ -59,6 +68,7 @@ step_with r p (retag_cell site m j n) = retag_cell site m j n
 step_with r p (go_to site target) = go_to site target
 step_with r p (fall_to_child site hang) = fall_to_child site (r p)
 
+-- A command with the lists of its points.
 abbrev mutual
   pub command_with : Rows → (p : ℕ) → Command → Command
   command_with r p (lone k) = lone (step_with r p k)
@@ -79,6 +89,7 @@ abbrev mutual
   block_with r p end_block = end_block
   block_with r p (command_then c cs) = command_then (command_with r p c) (block_with r (p + command_points c) cs)
 
+-- A state with the lists of the points in its body and in those of its descendants.
 abbrev mutual
   pub state_with : Rows → (p : ℕ) → State → State
   state_with r p (state_node s body children) = state_node s (block_with r p body) (group_with r (p + block_points body) children)

@@ -27,6 +27,7 @@ adder = record {
       (at 77)) no_state) no_state;
 }
 
+-- An entity without authority that starts with 0.
 abbrev pub entity : program.Kind → (width : ℕ) → Bool → (declared : ℕ) → Entity
 entity kind width dynamic declared = record { kind = kind; width = width; dynamic = dynamic; declared = declared; authority = 0; initial = 0 }
 

@@ -14,6 +14,7 @@ abbrev pub table : ℕ → (ℕ → Bool) → List Bool
 table zero test = []
 table (suc n) test = table n test ++ test n ∷ []
 
+-- A step with the list of what it touches; only a `fall` has one.
 abbrev pub filled_step : World → Home → Step → Step
 filled_step w at (assign site x e) = assign site x e
 filled_step w at (write site m i e) = write site m i e
@@ -26,15 +27,19 @@ filled_step w at (fall_to_child site hang) = fall_to_child site (table (root w) 
 abbrev pub filled_hang : World → Home → Command → List Bool
 filled_hang w at c = table (root w) (touches w at c)
 
+-- A command with the list of what each command in it touches.
 abbrev pub filled : World → Home → Command → Command
 filled w at c = mapped (filled_step w at) (filled_hang w at) c
 
+-- The arms of a `case`, with these lists.
 abbrev pub filled_arms : World → Home → Arms → Arms
 filled_arms w at arms = mapped_arms (filled_step w at) (filled_hang w at) arms
 
+-- A block with these lists.
 abbrev pub filled_block : World → Home → Block → Block
 filled_block w at b = mapped_block (filled_step w at) (filled_hang w at) b
 
+-- A state with these lists in its body and in those of its descendants.
 abbrev mutual
   pub filled_state : World → (parent : ℕ) → State → State
   filled_state w p (state_node s body children) =

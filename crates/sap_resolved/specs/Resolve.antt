@@ -18,6 +18,7 @@ use Rattle.sap_resolved.specs.Terms.{entity_number, term_of, level_term}
 abbrev pub site_number : Surroundings → ℕ → SimpleCommand → ℕ
 site_number h k c = if is_site h.entities h.home.kind h.home.children c then k else 0
 
+-- The step of a program that a step of the tree is, with its site's number.
 abbrev pub step_of : Levels → Surroundings → (site : ℕ) → SimpleCommand → Step
 step_of ls h n (assign target e) =
     assign n (entity_number h.entities target.name) (term_of h.entities e (register_width (what_is h.entities target.name)))
@@ -38,6 +39,7 @@ number_of (literal spot n) = n
 number_of (sized_literal spot width n) = n
 number_of e = 0
 
+-- The numbers of the constants of an arm.
 abbrev pub numbers_of : Expressions → List ℕ
 numbers_of no_part = []
 numbers_of (and_part e parts) = number_of e ∷ numbers_of parts

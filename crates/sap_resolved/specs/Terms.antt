@@ -19,6 +19,7 @@ use Rattle.sap_meaning.specs.Program.{LevelTerm, fixed, of, at_place, both}
 use Rattle.sap_lattice.specs.Levels.{Levels, order_of}
 use Rattle.sap_resolved.specs.Worlds.{level_number}
 
+-- The operator on one number that a unary operator is.
 abbrev pub one_of : UnaryOperator → Op1
 one_of unary.Not = one.Not
 one_of unary.Neg = one.Neg
@@ -26,6 +27,7 @@ one_of unary.AllOnes = one.AllOnes
 one_of unary.AnyOne = one.AnyOne
 one_of unary.Odd = one.Odd
 
+-- The operator on two numbers that a binary operator is.
 abbrev pub two_of : BinaryOperator → Op2
 two_of binary.Or = two.Or
 two_of binary.Xor = two.Xor
@@ -48,6 +50,7 @@ known n = unwrap_or n 0
 abbrev pub widened : (from width : ℕ) → Term ℕ → Term ℕ
 widened from width t = if eqb from width then t else term.join (term.constant (width - from) 0) t
 
+-- An expression over entities' numbers, in which each number without a width has the width that is asked of it.
 abbrev mutual
   pub term_of : List Entity → Expression → (asked : Option ℕ) → Term ℕ
   term_of es (literal spot value) asked = term.constant (known asked) value
@@ -73,6 +76,7 @@ abbrev mutual
   parts_of es (and_part e no_part) = term_of es e None
   parts_of es (and_part e (and_part f parts)) = term.join (term_of es e None) (parts_of es (and_part f parts))
 
+-- A tag expression over numbers of levels and entities.
 abbrev mutual
   pub level_term : Levels → List Entity → TagExpression → LevelTerm
   level_term ls es (level_of m) = fixed (level_number ls m)

@@ -5,6 +5,7 @@ use Rattle.sap_meaning.specs.Program.{World, root, is_register, is_memory, is_st
 use Rattle.sap_meaning.specs.Walks.{EveryInBlock, Asks, EveryBody, EveryBodyIn}
 use Rattle.sap_meaning.specs.Fine.{FineTerm, FineLevel}
 
+-- The targets of a step, and all names in its expressions, are of the kind that their places ask for.
 abbrev pub WellNamedStep : World → Step → Type 0
 WellNamedStep w (assign site x e) = (is_register w x ≡ true) × FineTerm w e
 WellNamedStep w (write site m i e) = (is_memory w m ≡ true) × FineTerm w i × FineTerm w e
@@ -17,8 +18,10 @@ WellNamedStep w (fall_to_child site hang) = Unit {0}
 abbrev pub WellNamedCommand : World → Command → Type 0
 WellNamedCommand w c = Asks (WellNamedStep w) (FineTerm w) c
 
+-- So are those of all steps in a state's body and in those of its descendants.
 abbrev pub WellNamedState : World → State → Type 0
 WellNamedState w t = EveryBody (EveryInBlock (WellNamedCommand w)) t
 
+-- So are those of all steps in the bodies of a group's states and of their descendants.
 abbrev pub WellNamedGroup : World → Group → Type 0
 WellNamedGroup w g = EveryBodyIn (EveryInBlock (WellNamedCommand w)) g

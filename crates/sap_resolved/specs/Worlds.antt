@@ -17,10 +17,12 @@ use Rattle.sap_meaning.specs.Program as program
 abbrev pub level_number : Levels → Mention → ℕ
 level_number ls m = unwrap_or (level_named ls.names m.name) (length ls.names)
 
+-- The level that a kind declares; a dynamic entity starts at bottom.
 abbrev pub declared_level : Levels → Kind → ℕ
 declared_level ls (Dynamic place) = (order_of ls).bottom
 declared_level ls (Enforced level under) = level_number ls level
 
+-- The level of an authority; an entity without one has bottom.
 abbrev pub authority_level : Levels → Option Under → ℕ
 authority_level ls None = (order_of ls).bottom
 authority_level ls (Some under) = level_number ls under.level
@@ -35,6 +37,7 @@ abbrev pub initial_of : Option Numeral → ℕ
 initial_of None = 0
 initial_of (Some n) = n.value
 
+-- The entity that a declaration declares.
 abbrev pub declared : Levels → Decl → Entity
 declared ls (Input place name width) = record {
   kind = program.input;
@@ -61,6 +64,7 @@ declared ls (Memory place name width depth kind) = record {
   initial = 0;
 }
 
+-- The entities of the declarations, in order.
 abbrev pub all_declared : Levels → List Decl → List Entity
 all_declared ls [] = []
 all_declared ls (d ∷ ds) = declared ls d ∷ all_declared ls ds
@@ -106,10 +110,12 @@ abbrev mutual
   group_children no_state = []
   group_children (and_state s rest) = state_children s ++ group_children rest
 
+-- Inputs, registers and memories have no children.
 abbrev pub no_children : List Decl → List ℕ
 no_children [] = []
 no_children (d ∷ ds) = 0 ∷ no_children ds
 
+-- What stays while a design runs over a lattice.
 abbrev pub world_of : Levels → DesignTree → World
 world_of ls d = record {
   order = order_of ls;

@@ -8,6 +8,7 @@ use Rattle.sap_rows.specs.declared.table.Cut.{Cut}
 use Rattle.sap_rows.specs.declared.table.File.{File}
 use Rattle.sap_rows.specs.declared.table.Step.{Step}
 
+-- A file has this name.
 abbrev pub has_name : List ℕ → File → Bool
 has_name name file = bytes_eq (string_bytes file.name) name
 

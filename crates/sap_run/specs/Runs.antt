@@ -44,12 +44,15 @@ marked (r ∷ rs) m = marked rs (slice_set m r.site (Some r.level))
 
 -- runs of the code's commands and states
 
+-- What a `fall` into these children does.
 unfoldable pub entered : Environment → (parent : ℕ) → List State → ℕ → ℕ → Store → After
 entered d p kids = run_child (world_in d) (group_of (entities_in d) kids) p
 
+-- What a list of commands does.
 unfoldable pub block_run : Environment → Home → List Command → ℕ → Store → After
 block_run d at cs = run_block (world_in d) (home_in d at) (entered d at.state at.children.now) (block_of (entities_in d) cs)
 
+-- What a command does.
 unfoldable pub command_run : Environment → Home → Command → ℕ → Store → After
 command_run d at c = run (world_in d) (home_in d at) (entered d at.state at.children.now) (command_of (entities_in d) c)
 
@@ -65,6 +68,7 @@ attempt_run d at hang k accepted refused =
     attempt_then (world_in d) (home_in d at) (entered d at.state at.children.now) (step_of (entities_in d) k)
     (listed (flags (entities_in d) hang)) (block_run d at accepted) (block_run d at refused)
 
+-- What an `if` does.
 unfoldable pub select_run : Environment → Home → (hang : List ℕ) → Number → (then_part else_part : List Command) → ℕ → Store → After
 select_run d at hang e a b =
     select (world_in d) (term_of e) (listed (flags (entities_in d) hang)) (branch (block_run d at a) (block_run d at b))
@@ -73,27 +77,34 @@ select_run d at hang e a b =
 abbrev pub picked_in : List Arm → (last : List Command) → ℕ → List Command
 picked_in arms last n = unwrap_or (option_map commands_in (find (λ arm. is_constant (constants_of arm) n) arms)) last
 
+-- What a `case` does.
 unfoldable pub choose_run : Environment → Home → (hang : List ℕ) → Number → List Arm → (last : List Command) → ℕ → Store → After
 choose_run d at hang e arms last =
     select (world_in d) (term_of e) (listed (flags (entities_in d) hang)) (λ n. block_run d at (picked_in arms last n))
 
+-- What a state's body does.
 unfoldable pub state_run : Environment → (parent : ℕ) → State → ℕ → Store → After
 state_run d p k = run_state (world_in d) (state_of (entities_in d) k) p
 
 -- what they need
 
+-- A command of the code can be run.
 unfoldable pub CommandAble : Environment → Command → Type 0
 CommandAble d c = AbleCommand (world_in d) (command_of (entities_in d) c)
 
+-- A list of commands of the code can be run.
 unfoldable pub BlockAble : Environment → List Command → Type 0
 BlockAble d cs = AbleBlock (world_in d) (block_of (entities_in d) cs)
 
+-- Arms of the code can be run.
 unfoldable pub ArmsAble : Environment → List Arm → (last : List Command) → Type 0
 ArmsAble d arms last = AbleArms (world_in d) (arms_before (entities_in d) arms (last_arm (block_of (entities_in d) last)))
 
+-- A state of the code can be run.
 unfoldable pub StateAble : Environment → State → Type 0
 StateAble d k = AbleState (world_in d) (state_of (entities_in d) k)
 
+-- A group of states of the code can be run.
 unfoldable pub GroupAble : Environment → List State → Type 0
 GroupAble d kids = AbleGroup (world_in d) (group_of (entities_in d) kids)
 

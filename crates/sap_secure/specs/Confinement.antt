@@ -37,6 +37,7 @@ abbrev mutual
   StandsInBlock c end_block = ⊥
   StandsInBlock c (command_then d ds) = StandsIn c d ⊎ StandsInBlock c ds
 
+-- The step is a `goto`.
 abbrev pub is_goto : Step → Bool
 is_goto (assign site x e) = false
 is_goto (write site m i e) = false
@@ -45,6 +46,7 @@ is_goto (retag_cell site m j n) = false
 is_goto (go_to site target) = true
 is_goto (fall_to_child site hang) = false
 
+-- The step is a `fall`.
 abbrev pub is_fall : Step → Bool
 is_fall (assign site x e) = false
 is_fall (write site m i e) = false

@@ -16,18 +16,23 @@ decided = try_then (assign 1 3 (constant 8 5)) []
     (command_then (try (assign 2 2 (constant 8 5)) [] (command_then (put_x 1) end_block)) end_block)
     (command_then (put_x 2) end_block)
 
+-- The body of the first child: a fork whose parts each assign.
 abbrev pub body_c : Block
 body_c = fork 6 0 5 0
 
+-- The body of the second child: a decided step, then a `goto` to itself.
 abbrev pub body_d : Block
 body_d = command_then decided (command_then (lone (go_to 0 6)) end_block)
 
+-- The two children of the parent.
 abbrev pub states_below_p : Group
 states_below_p = and_node (state_node 5 body_c no_node) (and_node (state_node 6 body_d no_node) no_node)
 
+-- The parent's body: it falls.
 abbrev pub body_p : Block
 body_p = command_then (lone (fall_to_child 0 [])) end_block
 
+-- The parent with its children.
 abbrev pub state_p : State
 state_p = state_node 4 body_p states_below_p
 

@@ -27,8 +27,10 @@ LabelledAgree p = (l : ℕ) (a b : List (List Tagged)) → StreamsAgree p.world.
 abbrev pub OneCycle : Type 0
 OneCycle = (p : Program) → FineProgram p → CyclesAgree p
 
+-- In each fine program, runs from stores that agree below a level agree there later.
 abbrev pub LaterRunsAgree : Type 0
 LaterRunsAgree = (p : Program) → FineProgram p → LaterAgree p
 
+-- In each fine program, labelled runs on streams that agree at or below a level agree there in every cycle.
 abbrev pub LabelledRunsAgree : Type 0
 LabelledRunsAgree = (p : Program) → FineProgram p → LabelledAgree p

@@ -7,6 +7,7 @@ use Rattle.sap_program.specs.Views.{program_in}
 use Rattle.sap_sem.specs.Seen.{MachineSeen}
 use Rattle.sap_store.specs.Kept.{store_of}
 
+-- The levels of a machine's lattice.
 abbrev pub levels_of : MachineSeen → Levels
 levels_of m = m.lattice
 
@@ -14,6 +15,7 @@ levels_of m = m.lattice
 abbrev pub program_of : MachineSeen → Program
 program_of m = program_in (order_of m.lattice) m.program
 
+-- The state of a machine between two cycles.
 abbrev pub state_of : MachineSeen → Store
 state_of m = store_of (program_of m).world m.store
 
@@ -21,6 +23,7 @@ state_of m = store_of (program_of m).world m.store
 abbrev pub site_count_of : MachineSeen → ℕ
 site_count_of m = m.program.sites
 
+-- This is the number of a check site of the machine's design.
 abbrev pub IsSite : MachineSeen → ℕ → Type 0
 IsSite m k = (1 ≤ k) × (k ≤ site_count_of m)
 
@@ -28,6 +31,7 @@ IsSite m k = (1 ≤ k) × (k ≤ site_count_of m)
 abbrev pub refused_at : MachineSeen → ℕ → Option ℕ
 refused_at m k = get_or m.refusals k None
 
+-- The refusal of a site, if it was refused, in front of others.
 abbrev pub refusal_before : (site : ℕ) → Option ℕ → List Refusal → List Refusal
 refusal_before k None rs = rs
 refusal_before k (Some t) rs = record { site = k; level = t } ∷ rs

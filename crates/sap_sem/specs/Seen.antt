@@ -4,6 +4,7 @@ use Rattle.sap_lattice.specs.Levels.{Levels}
 use Rattle.sap_program.specs.declared.program.Program.{Program}
 use Rattle.sap_store.specs.declared.store.Store.{Store}
 
+-- A machine as contracts see it.
 pub record MachineSeen : Type 0 where
   pub lattice : Levels
   pub program : Program

@@ -12,6 +12,7 @@ use Rattle.sap_store.specs.declared.store.Store.{Store}
 use Rattle.sap_store.specs.Able.{AbleGroup}
 use Rattle.sap_store.specs.Kept.{Ready, store_of}
 
+-- The program of the labelled meaning that a machine's program is.
 abbrev pub meant : Levels → Program → meaning.Program
 meant ls p = program_in (order_of ls) p
 

@@ -8,6 +8,7 @@ use Rattle.sap_names.specs.declared.kind.Code.TheVariants.{E10}
 use Rattle.sap_names.specs.NameFaults.{fault_if}
 use Rattle.sap_shape.specs.Paths.{place_of}
 
+-- A transfer is a `goto` or a `fall`.
 abbrev pub is_transfer : SimpleCommand → Bool
 is_transfer (assign target e) = false
 is_transfer (write target index e) = false
@@ -32,18 +33,23 @@ own_open (if_else place condition then_block else_block) below = below
 own_open (try_then k place accepted refused) below = then_faults k place below
 own_open (case_of place e arms) below = below
 
+-- The faults E10 of a command and of all commands in it, apart from those of how a body ends.
 abbrev pub open_faults : Command → List Fault
 open_faults c = folded [] ◌++◌ own_open c
 
+-- Those of all commands of a block.
 abbrev pub open_block_faults : CommandBlock → List Fault
 open_block_faults block = folded_in_block [] ◌++◌ own_open block
 
+-- Those of all commands of an `else`, if there is one.
 abbrev pub open_else_faults : ElseBlock → List Fault
 open_else_faults other = folded_in_else [] ◌++◌ own_open other
 
+-- Those of all commands of the arms of a `case`.
 abbrev pub open_arms_faults : Arms → List Fault
 open_arms_faults arms = folded_in_arms [] ◌++◌ own_open arms
 
+-- Those of all commands of a list.
 abbrev pub open_list_faults : CommandList → List Fault
 open_list_faults list = folded_in_list [] ◌++◌ own_open list
 
@@ -55,10 +61,13 @@ last_simple_faults k after = fault_if (not (is_transfer k)) E10 after
 abbrev pub last_handler_faults : SimpleCommand → (opened closing : List Fault) → List Fault
 last_handler_faults k opened closing = if is_transfer k then closing else opened
 
+-- No command is left.
 abbrev pub is_end : CommandList → Bool
 is_end no_command = true
 is_end (and_command c cs) = false
 
+-- The faults E10 of a command that is the last of its list: it must be a transfer, or each of its blocks must end in
+-- one.
 abbrev mutual
   pub last_faults : Command → (after : Place) → List Fault
   last_faults (lone k) after = last_simple_faults k after

@@ -17,18 +17,23 @@ use Rattle.sap_shape.specs.Paths as paths
 use Rattle.sap_shape.specs.ShapeFaults.{IsShapeFault}
 use Rattle.sap_shape.specs.WellFormed.{WellFormed}
 
+-- A number at a column, for examples.
 abbrev pub number : ℕ → ℕ → Expression
 number column n = literal (spot (at column)) n
 
+-- A block whose closing brace is at a column.
 abbrev pub block : ℕ → CommandList → CommandBlock
 block after cs = command_block cs (at after)
 
+-- A block of one command.
 abbrev pub one : ℕ → Command → CommandBlock
 one after c = block after (and_command c no_command)
 
+-- The kind `enforced low`.
 abbrev pub low : Kind
 low = Enforced (mention (at 2) (codes "low")) None
 
+-- A state without children.
 abbrev pub leaf : List ℕ → Kind → CommandBlock → StateTree
 leaf name kind body = state_node (at 1) (mention (at 1) name) kind body no_state
 
@@ -41,15 +46,19 @@ one_state version register state body = record {
   states = and_state (leaf (codes "S") state body) no_state;
 }
 
+-- The kind `dynamic`.
 abbrev pub dynamic : Kind
 dynamic = Dynamic (at 12)
 
+-- A design of version 1 with one register, one memory and a state with this body.
 abbrev pub design : CommandBlock → DesignTree
 design body = one_state One dynamic low body
 
+-- A step that writes a cell of the memory.
 abbrev pub writes : ℕ → Command
 writes column = lone (write (mention (at column) (codes "m")) (number (column + 2) 0) (number (column + 6) 1))
 
+-- A `goto` to the state itself.
 abbrev pub home : ℕ → Command
 home column = lone (go_to (at column) (mention (at (column + 5)) (codes "S")))
 
@@ -57,6 +66,7 @@ home column = lone (go_to (at column) (mention (at (column + 5)) (codes "S")))
 abbrev pub FaultsOf : DesignTree → List Fault → Type 0
 FaultsOf d fs = (f : Fault) → (IsShapeFault d f → StandsIn f fs) × (StandsIn f fs → IsShapeFault d f)
 
+-- The design with this body has exactly these faults of shape.
 abbrev pub Faults : CommandBlock → List Fault → Type 0
 Faults body fs = FaultsOf (design body) fs
 
@@ -73,9 +83,11 @@ InTwoBranches = Faults (block 90
 abbrev pub NotClosed : Type 0
 NotClosed = Faults (block 90 (and_command (writes 20) no_command)) (fault E10 90 ∷ [])
 
+-- A `goto` that isn't the last command of its body is E10.
 abbrev pub NotLast : Type 0
 NotLast = Faults (block 90 (and_command (home 20) (and_command (home 40) no_command))) (fault E10 20 ∷ [])
 
+-- An `if` without `else` at the end of a body is E10, though its block ends in a `goto`.
 abbrev pub WithoutElse : Type 0
 WithoutElse = Faults (one 90 (if_else (at 20) (number 24 1) (one 30 (home 26)) no_else)) (fault E10 20 ∷ [])
 
@@ -83,23 +95,29 @@ WithoutElse = Faults (one 90 (if_else (at 20) (number 24 1) (one 30 (home 26)) n
 abbrev pub FallsInLeaf : Type 0
 FallsInLeaf = Faults (one 90 (lone (fall_to_child (at 20)))) (fault E12 20 ∷ [])
 
+-- A `goto` to a state that isn't in the same group is E11.
 abbrev pub ToNoSibling : Type 0
 ToNoSibling = Faults (one 90 (lone (go_to (at 20) (mention (at 25) (codes "T"))))) (fault E11 25 ∷ [])
 
+-- An `otherwise` of a step that can't be refused is a fault at its place.
 abbrev pub NeverRefused : Type 0
 NeverRefused = Faults (block 90 (and_command (try (assign (mention (at 20) (codes "x")) (number 25 1)) (at 27) (one 50 (writes 40))) (and_command (home 60) no_command))) (fault E15 27 ∷ [])
 
+-- A `setTag` of a dynamic entity is a fault.
 abbrev pub DynamicRetagged : Type 0
 DynamicRetagged = Faults (block 90 (and_command (lone (set_tag (at 20) (mention (at 27) (codes "x")) (level_of (mention (at 30) (codes "low"))))) (and_command (home 60) no_command))) (fault E16 27 ∷ [])
 
+-- A `setTag` of the state in whose body it appears is a fault.
 abbrev pub ItselfRetagged : Type 0
 ItselfRetagged = Faults (block 90 (and_command (lone (set_tag (at 20) (mention (at 27) (codes "S")) (level_of (mention (at 30) (codes "low"))))) (and_command (home 60) no_command))) (fault E17 27 ∷ [])
 
 -- Version 2.
 
+-- A block without commands.
 abbrev pub empty : ℕ → CommandBlock
 empty after = block after no_command
 
+-- A step that assigns the register.
 abbrev pub sets : ℕ → SimpleCommand
 sets column = assign (mention (at column) (codes "x")) (number (column + 5) 1)
 
@@ -115,6 +133,7 @@ NeverRefusedWithThen = FaultsOf (one_state Two dynamic low (deciding (sets 20) (
 abbrev pub WrittenInEitherBlock : Type 0
 WrittenInEitherBlock = FaultsOf (one_state Two low low (deciding (sets 20) (one 45 (writes 34)) (one 70 (writes 60)))) []
 
+-- A write after a `then` whose block writes the same memory is E14.
 abbrev pub WrittenBehindABlock : Type 0
 WrittenBehindABlock = FaultsOf
     (one_state Two low low (block 90
@@ -130,6 +149,7 @@ abbrev pub ToNoSiblingWithThen : Type 0
 ToNoSiblingWithThen =
     FaultsOf (one_state Two dynamic low (one 90 (try_then (go_to (at 20) (mention (at 25) (codes "T"))) (at 27) (empty 34) (empty 48)))) (fault E10 27 ∷ fault E11 25 ∷ [])
 
+-- A `fall` with a `then`, in a state without children, is E10 at the `then` and E12 at the `fall`.
 abbrev pub FallsInLeafWithThen : Type 0
 FallsInLeafWithThen = FaultsOf (one_state Two dynamic low (one 90 (try_then (fall_to_child (at 20)) (at 25) (empty 34) (empty 48)))) (fault E10 25 ∷ fault E12 20 ∷ [])
 
@@ -155,14 +175,17 @@ put l c name value = assign (mention (on l c) name) (literal (spot (on l (c + 5)
 abbrev pub up_to : Place → List Command → CommandBlock
 up_to after cs = command_block (commands cs) after
 
+-- A `case` with one constant, whose arm falls and whose `else` goes back.
 abbrev pub by_number : Command
 by_number = case_of (on 3 15) (variable (spot (on 3 21)) (codes "a"))
     (and_arm (and_part (literal (spot (on 3 26)) 0) no_part) (up_to (on 3 37) (lone (fall_to_child (on 3 31)) ∷ []))
     (last_arm (up_to (on 3 54) (lone (paths.goto 3 46 (codes "P")) ∷ []))))
 
+-- A body with a step that has a handler and a `goto` after it.
 abbrev pub handled : CommandBlock
 handled = up_to (on 4 50) (try (put 4 13 (codes "y") 4) (on 4 20) (up_to (on 4 40) (lone (put 4 32 (codes "x") 5) ∷ [])) ∷ lone (paths.goto 4 42 (codes "P")) ∷ [])
 
+-- The design of both bodies.
 abbrev pub decided : DesignTree
 decided = record {
   version = Two;
@@ -174,5 +197,6 @@ decided = record {
       (and_state (state_node (on 5 1) (mention (on 5 7) (codes "C")) (paths.low (on 5 18)) (up_to (on 5 32) (lone (paths.goto 5 24 (codes "C")) ∷ [])) no_state) no_state)) no_state;
 }
 
+-- It is well formed over a lattice of two levels.
 abbrev pub DecidedIsWellFormed : Type 0
 DecidedIsWellFormed = WellFormed low_high decided

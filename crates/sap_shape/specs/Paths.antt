@@ -41,6 +41,7 @@ abbrev mutual
   ThroughList no_command path = path ≡ []
   ThroughList (and_command c cs) path = (first : Path) × (rest : Path) × Through c first × ThroughList cs rest × (path ≡ first ++ rest)
 
+-- This step is a `fall`.
 abbrev pub IsFall : SimpleCommand → Type 0
 IsFall (assign target e) = ⊥
 IsFall (write target index e) = ⊥
@@ -79,6 +80,7 @@ abbrev mutual
   UpToFallList (and_command c cs) path =
       UpToFall c path ⊎ ((first : Path) × (rest : Path) × Through c first × UpToFallList cs rest × (path ≡ first ++ rest))
 
+-- A path of one cycle from a state on: through its body, or up to a `fall` in it and on through a child.
 abbrev mutual
   -- From a state on: through its body, or up to a `fall` in it and then from any of its children on.
   pub FromState : StateTree → Path → Type 0
@@ -122,6 +124,7 @@ place_of (set_cell_tag place target index tag) = place
 place_of (go_to place target) = place
 place_of (fall_to_child place) = place
 
+-- The fault of a second write at a place.
 abbrev pub twice_at : Place → Fault
 twice_at p = record { code = E14; place = p }
 
@@ -142,12 +145,15 @@ PathFault d f = (again : SimpleCommand) × WritesAgain d again × (f ≡ twice_a
 abbrev pub put : (line column index value : ℕ) → SimpleCommand
 put l c index value = write (mention (on l c) (codes "m")) (literal (spot (on l (c + 2))) index) (literal (spot (on l (c + 8))) value)
 
+-- A `goto` at a place, for examples.
 abbrev pub goto : (line column : ℕ) → (target : List ℕ) → SimpleCommand
 goto l c target = go_to (on l c) (mention (on l (c + 5)) target)
 
+-- The kind `enforced low` at a place, for examples.
 abbrev pub low : Place → Kind
 low p = Enforced (mention p (codes "low")) None
 
+-- A design with one memory, a state and its child, with these two bodies.
 abbrev pub two_states : (parent child : CommandBlock) → DesignTree
 two_states parent child = record {
   version = One;
@@ -156,11 +162,13 @@ two_states parent child = record {
       (and_state (state_node (on 4 1) (mention (on 4 7) (codes "C")) (low (on 4 18)) child no_state) no_state)) no_state;
 }
 
+-- The state doesn't fall, and the child's body writes the memory twice.
 abbrev pub without_fall : DesignTree
 without_fall = two_states
     (command_block (and_command (lone (goto 3 1 (codes "P"))) no_command) (on 4 1))
     (command_block (and_command (lone (put 4 24 0 1)) (and_command (lone (put 4 35 1 2)) (and_command (lone (goto 4 46 (codes "C"))) no_command))) (on 4 54))
 
+-- The state writes the memory, falls, and writes it again in the handler of the `fall`.
 abbrev pub with_handler : DesignTree
 with_handler = two_states
     (command_block (and_command (lone (put 3 1 0 1)) (and_command (try (fall_to_child (on 3 12)) (on 3 17)

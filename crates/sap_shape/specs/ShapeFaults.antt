@@ -21,9 +21,11 @@ pub record Body : Type 0 where
   pub group : StateList
   pub above : List (List ℕ)
 
+-- The name of a state.
 abbrev pub name_of : StateTree → List ℕ
 name_of (state_node place name kind body children) = name.name
 
+-- Some state of a list has this name.
 abbrev pub is_among : StateList → List ℕ → Bool
 is_among no_state name = false
 is_among (and_state s rest) name = bytes_eq (name_of s) name || is_among rest name
@@ -37,9 +39,11 @@ abbrev mutual
   is_in_group no_state name = false
   is_in_group (and_state s rest) name = is_within s name || is_in_group rest name
 
+-- This is one of the names.
 abbrev pub is_in : List (List ℕ) → List ℕ → Bool
 is_in names name = list_any (λ n. bytes_eq n name) names
 
+-- A state without children is a leaf.
 abbrev pub is_leaf : StateList → Bool
 is_leaf no_state = true
 is_leaf (and_state s rest) = false
@@ -71,18 +75,23 @@ own_shape es at (if_else place condition then_block else_block) below = below
 own_shape es at (try_then k place accepted refused) below = then_shape es at k place ++ below
 own_shape es at (case_of place e arms) below = below
 
+-- The faults E11 to E17 of a command and of all commands in it.
 abbrev pub command_shape : List Entity → Body → Command → List Fault
 command_shape es at c = folded [] ◌++◌ (own_shape es at) c
 
+-- Those of all commands of a block.
 abbrev pub block_shape : List Entity → Body → CommandBlock → List Fault
 block_shape es at block = folded_in_block [] ◌++◌ (own_shape es at) block
 
+-- Those of all commands of an `else`, if there is one.
 abbrev pub else_shape : List Entity → Body → ElseBlock → List Fault
 else_shape es at other = folded_in_else [] ◌++◌ (own_shape es at) other
 
+-- Those of all commands of the arms of a `case`.
 abbrev pub arms_shape : List Entity → Body → Arms → List Fault
 arms_shape es at arms = folded_in_arms [] ◌++◌ (own_shape es at) arms
 
+-- Those of all commands of a list.
 abbrev pub list_shape : List Entity → Body → CommandList → List Fault
 list_shape es at list = folded_in_list [] ◌++◌ (own_shape es at) list
 

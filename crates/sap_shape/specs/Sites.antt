@@ -12,6 +12,7 @@ use Rattle.sap_names.specs.Entities.{find, enforced_of, dynamic_of, entities_of}
 abbrev pub is_enforced : List Entity → List ℕ → Bool
 is_enforced es name = enforced_of (find es name)
 
+-- The entity of this name is dynamic.
 abbrev pub is_dynamic : List Entity → List ℕ → Bool
 is_dynamic es name = dynamic_of (find es name)
 
@@ -19,6 +20,7 @@ is_dynamic es name = dynamic_of (find es name)
 abbrev pub kind_of_state : StateTree → Kind
 kind_of_state (state_node place name kind body children) = kind
 
+-- Some state of a list is enforced.
 abbrev pub any_enforced : StateList → Bool
 any_enforced no_state = false
 any_enforced (and_state s rest) = not (is_dynamic_kind (kind_of_state s)) || any_enforced rest
@@ -37,25 +39,32 @@ pub record Surroundings : Type 0 where
   pub entities : List Entity
   pub home : Home
 
+-- A check site is a step that may be refused, together with the body in which it appears.
 pub record CheckSite : Type 0 where
   pub surroundings : Surroundings
   pub command : SimpleCommand
 
+-- A step by itself is a check site, or none.
 abbrev pub simple_sites : Surroundings → SimpleCommand → List CheckSite
 simple_sites h k = let s : CheckSite = record { surroundings = h; command = k } in if is_site h.entities h.home.kind h.home.children k then s ∷ [] else []
 
+-- The check sites of a command and of all commands in it, in the order of the text.
 abbrev pub command_sites : Surroundings → Command → List CheckSite
 command_sites h c = gathered [] ◌++◌ (simple_sites h) c
 
+-- Those of all commands of a block.
 abbrev pub block_sites : Surroundings → CommandBlock → List CheckSite
 block_sites h block = gathered_in_block [] ◌++◌ (simple_sites h) block
 
+-- Those of all commands of an `else`, if there is one.
 abbrev pub else_sites : Surroundings → ElseBlock → List CheckSite
 else_sites h other = gathered_in_else [] ◌++◌ (simple_sites h) other
 
+-- Those of all commands of the arms of a `case`.
 abbrev pub arms_sites : Surroundings → Arms → List CheckSite
 arms_sites h arms = gathered_in_arms [] ◌++◌ (simple_sites h) arms
 
+-- Those of all commands of a list.
 abbrev pub list_sites : Surroundings → CommandList → List CheckSite
 list_sites h list = gathered_in_list [] ◌++◌ (simple_sites h) list
 
@@ -63,11 +72,14 @@ list_sites h list = gathered_in_list [] ◌++◌ (simple_sites h) list
 abbrev pub body_sites : List Entity → StateTree → List CheckSite
 body_sites es s = block_sites (record { entities = es; home = home_of s }) (body_of s)
 
+-- Those of a state's body and of its descendants' bodies.
 abbrev pub state_sites : List Entity → StateTree → List CheckSite
 state_sites es s = gathered_from [] ◌++◌ (body_sites es) s
 
+-- Those of the bodies of these states and of their descendants.
 abbrev pub states_sites : List Entity → StateList → List CheckSite
 states_sites es states = gathered_from_list [] ◌++◌ (body_sites es) states
 
+-- The check sites of a design, in the order of the text: their numbers count from 1.
 abbrev pub check_sites : DesignTree → List CheckSite
 check_sites d = states_sites (entities_of d) d.states

@@ -11,15 +11,19 @@ use Rattle.sap_names.specs.NameFaults.{fault_if}
 abbrev pub Written : Type 0
 Written = List ℕ → Bool
 
+-- No memory has been written.
 abbrev pub fresh : Written
 fresh m = false
 
+-- A memory was written on one path or on another.
 abbrev pub either : Written → Written → Written
 either p q m = p m || q m
 
+-- A memory more has been written.
 abbrev pub writing : List ℕ → Written → Written
 writing m p n = bytes_eq m n || p n
 
+-- What has been written after a step, if it is accepted.
 abbrev pub past_simple : SimpleCommand → Written → Written
 past_simple (assign target e) p = p
 past_simple (write target index e) p = writing target.name p
@@ -56,6 +60,7 @@ pub record Found : Type 0 where
 abbrev pub Part : Type 0
 Part = Written → Found
 
+-- A part without commands.
 abbrev pub nothing : Part
 nothing p = record { past = p; entering = fresh; again = [] }
 
@@ -73,9 +78,11 @@ branch f g p =
     let other = g p in
     record { past = either one.past other.past; entering = either one.entering other.entering; again = one.again ++ other.again }
 
+-- A step as a part: what is written after it, what a state that it falls into is entered with, and the faults in it.
 abbrev pub simple : SimpleCommand → Part
 simple k p = record { past = past_simple k p; entering = entering_simple k p; again = second_simple k p }
 
+-- What the search finds in a command.
 abbrev mutual
   pub found : Command → Part
   found (lone k) = simple k
@@ -108,18 +115,23 @@ is_fall (set_cell_tag place target index tag) = false
 is_fall (go_to place target) = false
 is_fall (fall_to_child place) = true
 
+-- Some step of a command is a `fall`.
 abbrev pub falls : Command → Bool
 falls c = some is_fall c
 
+-- Some step of a block is a `fall`.
 abbrev pub falls_block : CommandBlock → Bool
 falls_block block = some_in_block is_fall block
 
+-- Some step of an `else` is a `fall`.
 abbrev pub falls_else : ElseBlock → Bool
 falls_else other = some_in_else is_fall other
 
+-- Some step of the arms of a `case` is a `fall`.
 abbrev pub falls_arms : Arms → Bool
 falls_arms arms = some_in_arms is_fall arms
 
+-- Some step of a list is a `fall`.
 abbrev pub falls_list : CommandList → Bool
 falls_list list = some_in_list is_fall list
 

@@ -8,6 +8,7 @@ use Rattle.sap_share.specs.Sets.{holds}
 abbrev pub front : Name → ℕ
 front n = unwrap_or (slice_get n 0) 0
 
+-- The place is marked.
 abbrev pub is_marked : List Bool → ℕ → Bool
 is_marked marks k = slice_index_or marks k false
 

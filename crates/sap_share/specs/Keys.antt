@@ -9,6 +9,7 @@ use Rattle.sap_net.specs.declared.parts.Operand.TheVariants.{Named, Constant}
 use Rattle.sap_net.specs.declared.parts.Right.{Right}
 use Rattle.sap_net.specs.declared.parts.Right.TheVariants.{Copy, One, Two, Choose, Concat, Slice, Cell}
 
+-- The number of an operator of one operand.
 abbrev pub number1 : Op1 → ℕ
 number1 Not = 0
 number1 Neg = 1
@@ -16,6 +17,7 @@ number1 AllOnes = 2
 number1 AnyOne = 3
 number1 Odd = 4
 
+-- The number of an operator of two operands.
 abbrev pub number2 : Op2 → ℕ
 number2 Add = 0
 number2 Sub = 1
@@ -35,6 +37,7 @@ abbrev pub digits : (most n : ℕ) → List ℕ
 digits zero n = n ∷ []
 digits (suc most) n = if nat_lt n 128 then n ∷ [] else (128 + n % 128) ∷ digits most (n / 128)
 
+-- The bytes of a number.
 unfoldable pub number : ℕ → List ℕ
 number n = digits n n
 
@@ -43,9 +46,11 @@ abbrev pub operand_bytes : Operand → List ℕ
 operand_bytes (Named x) = 0 ∷ number (length x) ++ x
 operand_bytes (Constant w n) = 1 ∷ number w ++ number n
 
+-- The bytes of operands, one behind the other.
 abbrev pub operands_bytes : List Operand → List ℕ
 operands_bytes os = flat_map operand_bytes os
 
+-- The bytes of a right side: different right sides of one width have different bytes.
 abbrev pub right_bytes : Right → List ℕ
 right_bytes (Copy a) = 0 ∷ operand_bytes a
 right_bytes (One op a) = 1 ∷ number1 op ∷ operand_bytes a
@@ -55,5 +60,6 @@ right_bytes (Concat os) = 4 ∷ number (length os) ++ operands_bytes os
 right_bytes (Slice x hi lo) = 5 ∷ number hi ++ (number lo ++ x)
 right_bytes (Cell m i) = 6 ∷ operand_bytes i ++ m
 
+-- The key under which a right side of a width is kept.
 unfoldable pub key : (width : ℕ) → Right → List ℕ
 key w r = number w ++ right_bytes r

@@ -5,6 +5,7 @@ use Rattle.std.specs.declared.hash.FoldHasher.{FoldHasher}
 use Rattle.std.specs.declared.hash.BuildHasherDefault.{BuildHasherDefault}
 use Rattle.sap_maps.specs.Maps.{Name}
 
+-- A table by names.
 abbrev pub NameTable : Type 0 → Type 0
 NameTable X = HashMap Name X (BuildHasherDefault FoldHasher)
 

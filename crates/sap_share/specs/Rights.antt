@@ -14,6 +14,7 @@ use Rattle.sap_share.specs.Names.{helper}
 abbrev pub rights : List Wire → List (Name × Name)
 rights ws = map (λ w. (key w.width w.right, w.name)) ws
 
+-- A map from the keys of right sides to places.
 abbrev pub RightMap : Type 0
 RightMap = HashMap (List ℕ) ℕ (BuildHasherDefault FoldHasher)
 

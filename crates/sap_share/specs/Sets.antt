@@ -3,6 +3,7 @@ use Rattle.std.specs.Prelude.{◌≡◌, Bool, List}
 use Rattle.sap_maps.specs.Maps.{Name}
 use Rattle.sap_net.specs.Names.{is_among}
 
+-- The set has the name.
 abbrev pub holds : List Name → Name → Bool
 holds names n = is_among n names
 

@@ -18,6 +18,7 @@ use Rattle.sap_tree.specs.declared.version.Version.{Version}
 
 -- operators: those with two operands have a space on each side
 
+-- How an operator of one operand is written.
 abbrev pub unary_text : UnaryOperator → List ℕ
 unary_text u.Not = codes "~"
 unary_text u.Neg = codes "-"
@@ -25,6 +26,7 @@ unary_text u.AllOnes = codes "&"
 unary_text u.AnyOne = codes "|"
 unary_text u.Odd = codes "^"
 
+-- How an operator of two operands is written, with a space on each side.
 abbrev pub binary_text : BinaryOperator → List ℕ
 binary_text b.Or = codes " | "
 binary_text b.Xor = codes " ^ "
@@ -90,9 +92,11 @@ unfoldable mutual
 
 -- commands; the margin is the spaces at the front of their lines
 
+-- How a cell is written.
 unfoldable pub cell_text : List ℕ → Expression → List ℕ
 cell_text memory index = memory ++ (codes "[" ++ (expression_text index ++ codes "]"))
 
+-- How a step is written.
 unfoldable pub simple_text : SimpleCommand → List ℕ
 simple_text (assign register x) = register.name ++ (codes " := " ++ expression_text x)
 simple_text (write memory index x) = cell_text memory.name index ++ (codes " := " ++ expression_text x)
@@ -132,18 +136,22 @@ unfoldable mutual
 
 -- declarations
 
+-- How the authority of an enforced thing is written: `under LEVEL`, or nothing.
 abbrev pub authority_text : Option Under → List ℕ
 authority_text None = []
 authority_text (Some under) = codes " under " ++ under.level.name
 
+-- How a kind is written: `dynamic`, or `enforced LEVEL` and its authority.
 abbrev pub kind_text : Kind → List ℕ
 kind_text (k.Dynamic place) = codes "dynamic"
 kind_text (k.Enforced level authority) = codes "enforced " ++ (level.name ++ authority_text authority)
 
+-- How a start number is written: `= N`, or nothing.
 abbrev pub start_text : Option Numeral → List ℕ
 start_text None = []
 start_text (Some n) = codes " = " ++ decimal n.value
 
+-- The line of a declaration.
 unfoldable pub declaration_text : Decl → List ℕ
 declaration_text (d.Input place name width) = codes "input " ++ (name.name ++ (codes " : " ++ (decimal width.value ++ codes ";\n")))
 declaration_text (d.Register place name width kind start) =
@@ -172,9 +180,11 @@ unfoldable mutual
   states_text margin no_state = []
   states_text margin (and_state s states) = state_text margin s ++ states_text margin states
 
+-- The first line of a design of version 2; a design of version 1 has none.
 abbrev pub version_text : Version → List ℕ
 version_text v.One = []
 version_text v.Two = codes "sapper 2;\n"
 
+-- The canonical text of a design: its version, its declarations and its states.
 unfoldable pub canonical_text : DesignTree → List ℕ
 canonical_text design = version_text design.version ++ (flat_map declaration_text design.declarations ++ states_text [] design.states)

@@ -20,6 +20,7 @@ adder = record {
       no_state) no_state;
 }
 
+-- The canonical text of a design of one input, one register and one state.
 abbrev pub Adder : Type 0
 Adder = canonical_text adder ≡ codes "input a : 8;\nreg x : 8 dynamic;\nstate S enforced low {\n  x := a + 1 & (a | x);\n  goto S;\n}\n"
 
@@ -31,6 +32,7 @@ low_bits = slice no_spot (read (codes "x")) 3 0
 abbrev pub stores : Command
 stores = lone (write (named (codes "m")) (read (codes "i")) (zero_extend no_spot low_bits 8))
 
+-- An assignment with a choice, a concatenation and a double negation, and an empty handler.
 abbrev pub chooses : Command
 chooses = try
     (assign (named (codes "x")) (choice no_spot (read (codes "i"))
@@ -38,12 +40,14 @@ chooses = try
     (unary_of no_spot u.Neg (unary_of no_spot u.Neg (read (codes "x"))))))
     nowhere (block [])
 
+-- A retagging of a cell by a join of two levels, with a handler that falls.
 abbrev pub retags : Command
 retags = try
     (set_cell_tag nowhere (named (codes "m")) (number 0)
     (join_of nowhere (and_tag (level_of (named (codes "high"))) (and_tag (tag_at nowhere (read (codes "x"))) no_tag))))
     nowhere (block (lone (fall_to_child nowhere) ∷ []))
 
+-- A design of version 1 with each kind of declaration and a state below a state.
 abbrev pub nested : DesignTree
 nested = record {
   version = One;
@@ -62,6 +66,7 @@ abbrev pub lines : List (List ℕ) → List ℕ
 lines [] = []
 lines (line ∷ rest) = line ++ (codes "\n" ++ lines rest)
 
+-- The canonical text of the nested design.
 abbrev pub Nested : Type 0
 Nested = canonical_text nested
     ≡ lines
@@ -90,9 +95,11 @@ looks = case_of nowhere (read (codes "a"))
     (and_arm (and_part (number 0) (and_part (sized_literal no_spot 2 3) no_part)) (block (lone (assign (named (codes "x")) (number 7)) ∷ []))
     (and_arm (and_part (number 1) no_part) (block []) (last_arm (block (lone (go_to nowhere (named (codes "S"))) ∷ [])))))
 
+-- An assignment with a block for each outcome.
 abbrev pub decides : Command
 decides = try_then (assign (named (codes "y")) (read (codes "a"))) nowhere (block (looks ∷ [])) (block (lone (fall_to_child nowhere) ∷ []))
 
+-- A design of version 2 with the two commands that version 1 hasn't.
 abbrev pub second : DesignTree
 second = record {
   version = Two;
@@ -100,6 +107,7 @@ second = record {
   states = and_state (state_node nowhere (named (codes "S")) (enforced (codes "low")) (block (decides ∷ [])) no_state) no_state;
 }
 
+-- The canonical text of the design of version 2.
 abbrev pub Second : Type 0
 Second = canonical_text second
     ≡ lines

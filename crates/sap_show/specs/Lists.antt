@@ -6,9 +6,11 @@ use Rattle.sap_tree.specs.declared.syntax.Cmd.{Cmd}
 use Rattle.sap_tree.specs.declared.syntax.State.{State}
 use Rattle.sap_show.specs.Canonical.{block_text, commands_text, parts_text, states_text}
 
+-- How stored commands are written.
 unfoldable pub list_text : List ℕ → List Cmd → List ℕ
 list_text margin commands = commands_text margin (commands_of commands)
 
+-- How stored states are written.
 unfoldable pub group_text : List ℕ → List State → List ℕ
 group_text margin states = states_text margin (states_of states)
 

@@ -31,8 +31,10 @@ is_tag tag is i = i.width == tag && passes (λ a. is_some (find (input_widths is
 abbrev pub with_field : (tag : ℕ) → List Input → List Input
 with_field tag is = filter (λ i. not (is_tag tag is i)) is
 
+-- The field of an input: tagged where the input has a tag.
 abbrev pub field_of : (tag : ℕ) → List Input → Input → Field
 field_of tag is i = if is_tagged tag is i.name then Tagged i.width else Plain i.width
 
+-- The fields of a line, for the inputs that aren't tags.
 abbrev pub fields_of : Levels → Net → List Field
 fields_of ls n = map (field_of (tag_width ls) n.inputs) (with_field (tag_width ls) n.inputs)

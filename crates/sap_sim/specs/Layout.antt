@@ -16,14 +16,17 @@ use Rattle.sap_sim.specs.Fields.{tag_width, is_tag}
 use Rattle.sap_sim.specs.Shown.{shown_registers}
 use Rattle.sap_sim.specs.Numbers.{place, field_names, nothing, value_for}
 
+-- Where an input's number comes from: the number of a field, or its level's code.
 abbrev pub source_of : (tag : ℕ) → List Input → Input → Source
 source_of tag is i =
     if is_tag tag is i then Code (place (field_names tag is) (value_for i.name)) else Value (place (field_names tag is) i.name)
 
+-- The field that a source reads.
 abbrev pub source_place : Source → ℕ
 source_place (Value k) = k
 source_place (Code k) = k
 
+-- The number that a source gives.
 abbrev pub number_from : Levels → List Given → Source → ℕ
 number_from ls xs (Value k) = (get_or xs k nothing).number
 number_from ls xs (Code k) = code_of (order_of ls) (get_or xs k nothing).level

@@ -14,6 +14,7 @@ use Rattle.sap_sim.specs.Fields.{tag_width, is_tag, with_field}
 abbrev pub place : List Name → Name → ℕ
 place ns n = position_or_len (λ m. bytes_eq m n) ns
 
+-- What a missing field gives.
 abbrev pub nothing : Given
 nothing = record { number = 0; level = 0 }
 

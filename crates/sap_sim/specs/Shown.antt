@@ -23,5 +23,6 @@ shown_registers ls n = shown_among (tag_width ls) (port_widths n) (register_port
 abbrev pub row_of : Levels → List Name → (cycle : ℕ) → Valuation → List ℕ
 row_of ls xs cycle v = row_text cycle (shown_of ls xs (map (λ x. v.value (value_name x)) xs) (map (λ x. v.value (tag_name x)) xs))
 
+-- The rows of a run, from a cycle on.
 abbrev pub rows_from : Levels → List Name → (cycle : ℕ) → List Valuation → List ℕ
 rows_from ls xs = told_from (row_of ls xs)

@@ -9,6 +9,7 @@ use Rattle.sap_cycle.specs.Running.{Running, Shows}
 use Rattle.sap_stim.specs.declared.field.Field.{Field}
 use Rattle.sap_sim.specs.Told.{told_from}
 
+-- A simulator in the middle of its run, with its plan of rows.
 pub record Stepped (Plan : Type 0) : Type 0 where
   -- the netlist, and what it shows
   pub runner : Running

@@ -34,6 +34,7 @@ HasRowMore ls n = TellsMore (row_of ls (shown_registers ls n)) n (numbers_of ls 
 abbrev pub AreRows : Levels → Net → (lines : List (List Given)) → (text : List ℕ) → Type 0
 AreRows ls n = TellsAll (row_of ls (shown_registers ls n)) n (numbers_of ls n)
 
+-- The rows and the fault of a run.
 abbrev pub rows_of : (text : List ℕ) → Option StimFault → Rows
 rows_of text fault = record { text = text; fault = fault }
 

@@ -22,5 +22,6 @@ abbrev pub forest_weight : (group from : Forest) → ℕ
 forest_weight group none = 0
 forest_weight group (state x b kids rest) = 2 + body_weight group b + forest_weight kids kids + forest_weight group rest
 
+-- The weight of a program of nested states: that of its states, its ports, registers and memories.
 abbrev pub nested_weight : Nested → ℕ
 nested_weight p = forest_weight p.states p.states + length p.ports + length p.registers + length p.memories

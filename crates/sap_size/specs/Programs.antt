@@ -6,12 +6,14 @@ use Rattle.sap_size.specs.Terms.{term_size}
 
 -- The nodes of expressions, tag expressions, commands and states; a join of levels counts by its parts alone.
 
+-- The nodes of a level's term.
 abbrev pub level_size : LevelTerm → ℕ
 level_size (fixed n) = 1
 level_size (of e) = 1 + term_size e
 level_size (at_place e) = 1 + term_size e
 level_size (both a b) = level_size a + level_size b
 
+-- The nodes of a step's terms.
 abbrev pub step_size : Step → ℕ
 step_size (assign site x e) = term_size e
 step_size (write site m i e) = term_size i + term_size e
@@ -33,6 +35,7 @@ own_size (if_else hang e a b) below = 1 + term_size e + below
 own_size (try_then s hang a b) below = 1 + step_size s + below
 own_size (case_of hang e arms) below = 1 + term_size e + constant_count arms + below
 
+-- The nodes of a command.
 abbrev pub command_size : Command → ℕ
 command_size c = folded 0 ◌+◌ own_size c
 
@@ -40,15 +43,19 @@ command_size c = folded 0 ◌+◌ own_size c
 abbrev pub arms_size : Arms → ℕ
 arms_size arms = folded_in_arms 0 ◌+◌ own_size arms
 
+-- The nodes of a block.
 abbrev pub block_size : Block → ℕ
 block_size b = folded_in_block 0 ◌+◌ own_size b
 
+-- The nodes of a state's body, and one for the state.
 abbrev pub body_size : State → ℕ
 body_size t = 1 + block_size (body_of t)
 
+-- The nodes of a state and of all states below it.
 abbrev pub state_size : State → ℕ
 state_size t = gathered_from 0 ◌+◌ body_size t
 
+-- The nodes of a group and of all states below it.
 abbrev pub group_size : Group → ℕ
 group_size g = gathered_from_group 0 ◌+◌ body_size g
 
@@ -56,5 +63,6 @@ group_size g = gathered_from_group 0 ◌+◌ body_size g
 abbrev pub states_of : State → ℕ
 states_of t = gathered_from 0 ◌+◌ (λ s. 1) t
 
+-- How many states a group has, with all below.
 abbrev pub states_below : Group → ℕ
 states_below g = gathered_from_group 0 ◌+◌ (λ s. 1) g

@@ -11,6 +11,7 @@ use Rattle.sap_maps.specs.Term.{Term, constant, read, cell, one, two, choose, jo
 
 -- the same operator
 
+-- The two operators of one operand are the same.
 abbrev pub same_one : Op1 → Op1 → Bool
 same_one Not Not = true
 same_one Neg Neg = true
@@ -19,6 +20,7 @@ same_one AnyOne AnyOne = true
 same_one Odd Odd = true
 same_one _ _ = false
 
+-- The two operators of two operands are the same.
 abbrev pub same_two : Op2 → Op2 → Bool
 same_two Add Add = true
 same_two Sub Sub = true

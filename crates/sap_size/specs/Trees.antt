@@ -7,6 +7,7 @@ use Rattle.sap_tree.specs.Whole.{states_count}
 -- The nodes of expressions, tag expressions, commands and states. A command with its handler is one node beside the nodes of the handler, and
 -- so is a command with its two blocks. A constant of a `case` is an expression.
 
+-- The nodes of an expression, and of the parts of a concatenation.
 abbrev mutual
   pub expression_nodes : Expression → ℕ
   expression_nodes (literal spot n) = 1
@@ -24,6 +25,7 @@ abbrev mutual
   part_nodes no_part = 0
   part_nodes (and_part x parts) = expression_nodes x + part_nodes parts
 
+-- The nodes of an expression of a level, and of the parts of a join.
 abbrev mutual
   pub tag_nodes : TagExpression → ℕ
   tag_nodes (level_of name) = 1
@@ -57,12 +59,15 @@ own_nodes (if_else place x one other) below = 1 + expression_nodes x + below
 own_nodes (try_then c place one other) below = 1 + operand_nodes c + below
 own_nodes (case_of place x arms) below = 1 + expression_nodes x + constant_nodes arms + below
 
+-- The nodes of a command.
 abbrev pub command_nodes : Command → ℕ
 command_nodes c = folded 0 ◌+◌ own_nodes c
 
+-- The nodes of a block.
 abbrev pub block_nodes : CommandBlock → ℕ
 block_nodes block = folded_in_block 0 ◌+◌ own_nodes block
 
+-- The nodes of an `else` part.
 abbrev pub else_nodes : ElseBlock → ℕ
 else_nodes other = folded_in_else 0 ◌+◌ own_nodes other
 
@@ -70,15 +75,19 @@ else_nodes other = folded_in_else 0 ◌+◌ own_nodes other
 abbrev pub arms_nodes : Arms → ℕ
 arms_nodes arms = folded_in_arms 0 ◌+◌ own_nodes arms
 
+-- The nodes of a list of commands.
 abbrev pub list_nodes : CommandList → ℕ
 list_nodes list = folded_in_list 0 ◌+◌ own_nodes list
 
+-- The nodes of a state and of all states below it.
 abbrev pub state_nodes : StateTree → ℕ
 state_nodes s = gathered_from 0 ◌+◌ (λ s. 1 + block_nodes (body_of s)) s
 
+-- The nodes of a list of states and of all states below them.
 abbrev pub states_nodes : StateList → ℕ
 states_nodes states = gathered_from_list 0 ◌+◌ (λ s. 1 + block_nodes (body_of s)) states
 
+-- The nodes of a design.
 abbrev pub design_nodes : DesignTree → ℕ
 design_nodes d = states_nodes d.states
 

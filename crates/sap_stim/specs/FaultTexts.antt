@@ -4,5 +4,6 @@ use Rattle.std.specs.Fmt.{decimal}
 use Rattle.sap_stim.specs.Code.{number}
 use Rattle.sap_stim.specs.declared.fault.StimFault.{StimFault}
 
+-- How a fault of a stimulus is written.
 abbrev pub stimulus_text : StimFault → List ℕ
 stimulus_text fault = codes "S" ++ decimal (number fault.code) ++ codes " line " ++ decimal fault.line

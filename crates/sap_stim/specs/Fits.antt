@@ -8,6 +8,7 @@ use Rattle.sap_stim.specs.declared.field.Field.TheVariants.{Tagged, Plain}
 use Rattle.sap_stim.specs.Line.{field_width}
 use Rattle.sap_stim.specs.Stimulus.{stimulus_of}
 
+-- The field has no level.
 abbrev pub is_plain : Field → Bool
 is_plain (Tagged width) = false
 is_plain (Plain width) = true
@@ -22,6 +23,7 @@ pub record InputFits (ls : Levels) (f : Field) (x : Given) : Type 0 where
 abbrev pub LineFits : Levels → List Field → List Given → Type 0
 LineFits ls = AllZip (InputFits ls)
 
+-- Each cycle of a stream fits the fields.
 abbrev pub StreamFits : Levels → List Field → List (List Given) → Type 0
 StreamFits ls fs stream = AllByRecursion (LineFits ls fs) stream
 

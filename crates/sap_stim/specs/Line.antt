@@ -18,6 +18,7 @@ abbrev pub field_width : Field → ℕ
 field_width (Tagged width) = width
 field_width (Plain width) = width
 
+-- The field's width is 1 to 64.
 abbrev pub IsSized : Field → Type 0
 IsSized f = (1 ≤ field_width f) × (field_width f ≤ 64)
 
@@ -37,6 +38,7 @@ fields_in [] = []
 fields_in (piece ∷ []) = if is_starred piece then [] else piece ∷ []
 fields_in (piece ∷ (next ∷ pieces)) = piece ∷ fields_in (next ∷ pieces)
 
+-- The fields of a line, without its count.
 abbrev pub fields_of : List ℕ → List (List ℕ)
 fields_of text = fields_in (pieces_of text)
 
@@ -46,6 +48,7 @@ count_in [] = None
 count_in (piece ∷ []) = if is_starred piece then Some piece else None
 count_in (piece ∷ (next ∷ pieces)) = count_in (next ∷ pieces)
 
+-- The first fault, else what follows.
 abbrev pub and_then : {A B : Type 0} → Result A StimCode → (A → Result B StimCode) → Result B StimCode
 and_then (Ok x) f = f x
 and_then (Err code) f = Err code
@@ -76,6 +79,7 @@ tagged_of ls width text =
 abbrev pub plain_of : Levels → (width : ℕ) → List ℕ → Result Given StimCode
 plain_of ls width text = and_then (value_of width text) (λ value. Ok (record { number = value; level = (order_of ls).bottom }))
 
+-- What a field is read as.
 abbrev pub field_of : Levels → Field → List ℕ → Result Given StimCode
 field_of ls (Tagged width) text = tagged_of ls width text
 field_of ls (Plain width) text = plain_of ls width text

@@ -17,6 +17,7 @@ pub record Shown : Type 0 where
 abbrev pub level_coded : Levels → ℕ → Option ℕ
 level_coded ls code = find (λ level. code_of (order_of ls) level == code) (numbers (length ls.names))
 
+-- What a row shows of a register: its name, its number, its level and its code.
 abbrev pub shown : Levels → (name : List ℕ) → (value tag : ℕ) → Shown
 shown ls name value tag = record { name = name; value = value; level = option_map (name_at ls.names) (level_coded ls tag); tag = tag }
 
@@ -44,13 +45,16 @@ at_level ls tag = codes "@" ++ level_text (option_map (name_at ls.names) (level_
 abbrev pub AreLevelTexts : Levels → (texts : List (List ℕ)) → Type 0
 AreLevelTexts ls texts = (tag : ℕ) (other : List ℕ) → tag < length texts → get_or texts tag other ≡ at_level ls tag
 
+-- How a register is written in a row.
 abbrev pub shown_text : Shown → List ℕ
 shown_text s = codes " " ++ s.name ++ codes "=" ++ decimal s.value ++ codes "@" ++ level_text s.level s.tag
 
+-- How the registers of a row are written, with the line's end.
 abbrev pub all_shown : List Shown → List ℕ
 all_shown [] = byte "\n" ∷ []
 all_shown (s ∷ ss) = shown_text s ++ all_shown ss
 
+-- How a row is written.
 abbrev pub row_text : (cycle : ℕ) → List Shown → List ℕ
 row_text cycle ss = codes "cycle " ++ decimal cycle ++ codes ":" ++ all_shown ss
 

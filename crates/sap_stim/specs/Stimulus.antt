@@ -9,6 +9,7 @@ use Rattle.sap_stim.specs.declared.stimulus.Parsed.{Parsed}
 use Rattle.sap_text.specs.Lines.{split_at}
 use Rattle.sap_stim.specs.Line.{line_of}
 
+-- There are no bytes.
 abbrev pub is_empty : List ℕ → Bool
 is_empty [] = true
 is_empty (b ∷ bs) = false
@@ -17,12 +18,15 @@ is_empty (b ∷ bs) = false
 abbrev pub ahead : Span → Parsed → Parsed
 ahead line p = record { stream = cycles_in line ++ p.stream; fault = p.fault }
 
+-- Nothing is read, up to a fault.
 abbrev pub stopped : (line : ℕ) → StimCode → Parsed
 stopped line code = record { stream = []; fault = Some (record { line = line; code = code }) }
 
+-- Nothing is read, to the end.
 abbrev pub finished : Parsed
 finished = record { stream = []; fault = None }
 
+-- A line's cycles and what follows, or its fault.
 abbrev pub going_on : (line : ℕ) → Result Span StimCode → Parsed → Parsed
 going_on line (Ok span) rest = ahead span rest
 going_on line (Err code) rest = stopped line code
@@ -35,6 +39,7 @@ read_pieces ls fs line (text ∷ []) =
 read_pieces ls fs line (text ∷ (next ∷ rest)) =
     going_on line (line_of ls fs true text) (read_pieces ls fs (line + 1) (next ∷ rest))
 
+-- What a stimulus is read as: its stream up to its end or its first fault.
 abbrev pub stimulus_of : Levels → List Field → List ℕ → Parsed
 stimulus_of ls fs bytes = read_pieces ls fs 1 (split_at 10 bytes)
 

@@ -12,6 +12,7 @@ pub record AbleTerm (w : World) (e : Term ℕ) : Type 0 where
   pub sized : SizedTerm w e
   pub ranged : RangedTerm w e
 
+-- A tag expression can be run.
 abbrev pub AbleLevel : World → LevelTerm → Type 0
 AbleLevel w n = EveryLevel (λ level. Unit {0}) (AbleTerm w) n
 
@@ -33,6 +34,7 @@ pub record AbleTarget (w : World) (x : ℕ) : Type 0 where
   pub within : last w x < root w
   pub few : place w x < 2 ^ 32
 
+-- A step can be run.
 abbrev pub AbleStep : World → Step → Type 0
 AbleStep w (assign site x e) = AbleValue w x e
 AbleStep w (write site m i e) = AbleIndex w m i × AbleValue w m e
@@ -41,15 +43,19 @@ AbleStep w (retag_cell site m j n) = AbleIndex w m j × (is_dynamic w m ≡ fals
 AbleStep w (go_to site target) = AbleTarget w target
 AbleStep w (fall_to_child site hang) = Unit {0}
 
+-- A command can be run, with all commands in it.
 unfoldable pub AbleCommand : World → Command → Type 0
 AbleCommand w c = Every (Asks (AbleStep w) (AbleTerm w)) c
 
+-- The arms of a `case` can be run.
 unfoldable pub AbleArms : World → Arms → Type 0
 AbleArms w arms = EveryInArms (Asks (AbleStep w) (AbleTerm w)) arms
 
+-- A block can be run.
 unfoldable pub AbleBlock : World → Block → Type 0
 AbleBlock w b = EveryInBlock (Asks (AbleStep w) (AbleTerm w)) b
 
+-- A state's body can be run, and those of its descendants.
 unfoldable mutual
   pub AbleState : World → State → Type 0
   AbleState w (state_node s b g) = (s < root w) × AbleBlock w b × AbleGroup w g

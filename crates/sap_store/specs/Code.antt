@@ -11,9 +11,11 @@ use Rattle.sap_store.specs.declared.environment.Environment.{Environment}
 use Rattle.sap_store.specs.declared.store.Store.{Store}
 use Rattle.sap_store.specs.Kept.{store_of}
 
+-- The program that the code runs, with the order of its lattice.
 abbrev pub program_of : Environment → program.Program
 program_of d = program_in (order_of d.lattice.now) d.program.now
 
+-- What stays while that program runs.
 abbrev pub world_in : Environment → World
 world_in d = (program_of d).world
 
@@ -21,8 +23,10 @@ world_in d = (program_of d).world
 abbrev pub entities_in : Environment → ℕ
 entities_in d = count d.program.now
 
+-- The state in whose body a command runs.
 abbrev pub home_in : Environment → Home → checks.Home
 home_in d at = home_of (entities_in d) at
 
+-- The store that the code's store is seen as.
 abbrev pub store_in : Environment → Store → meaning.Store
 store_in d s = store_of (world_in d) s

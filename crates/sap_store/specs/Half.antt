@@ -7,6 +7,7 @@ pub record Cells : Type 0 where
   pub cells : List Cell
   pub whole : ℕ
 
+-- A cell that was never written.
 abbrev pub no_cell : (level : ℕ) → Cell
 no_cell t = record { number = 0; level = t }
 
@@ -14,8 +15,10 @@ no_cell t = record { number = 0; level = t }
 abbrev pub cell_at : (t : ℕ) → Cells → ℕ → Cell
 cell_at t h i = get_or h.cells i (no_cell t)
 
+-- A memory's cells with another number in one.
 abbrev pub with_number : (i number : ℕ) → Cells → Cells
 with_number i n h = record h { cells = slice_set h.cells i (record { number = n; level = (get_or h.cells i (no_cell 0)).level }) }
 
+-- A memory's cells with another level of one.
 abbrev pub with_level : (i level : ℕ) → Cells → Cells
 with_level i t h = record h { cells = slice_set h.cells i (record { number = (get_or h.cells i (no_cell 0)).number; level = t }) }

@@ -10,6 +10,7 @@ use Rattle.sap_store.specs.declared.entry.Entry.{Entry}
 use Rattle.sap_store.specs.declared.store.Store.{Store}
 use Rattle.sap_store.specs.Half.{Cells, no_cell, cell_at}
 
+-- The cells of what is no memory.
 abbrev pub no_half : (level : ℕ) → Cells
 no_half t = record { cells = []; whole = t }
 
@@ -17,9 +18,11 @@ no_half t = record { cells = []; whole = t }
 abbrev pub no_entry : (level : ℕ) → Entry
 no_entry t = record { own = no_cell t; start = no_half t; next = no_half t }
 
+-- An input to which nothing was given.
 abbrev pub no_input : (level : ℕ) → Tagged
 no_input t = record { number = 0; level = t }
 
+-- What is kept of the entity of a number.
 abbrev pub entry_at : World → List Entry → ℕ → Entry
 entry_at w es x = get_or es x (no_entry w.order.bottom)
 
@@ -27,6 +30,7 @@ entry_at w es x = get_or es x (no_entry w.order.bottom)
 abbrev pub past : World → ℕ → ℕ
 past w m = first_level w (own m)
 
+-- The number in a slot, as it is kept.
 abbrev pub number_in : World → List Entry → Slot → ℕ
 number_in w es (own x) = (entry_at w es x).own.number
 number_in w es (start m i) = (cell_at (past w m) (entry_at w es m).start i).number
@@ -34,6 +38,7 @@ number_in w es (next m i) = (cell_at (past w m) (entry_at w es m).next i).number
 number_in w es (start_whole m) = 0
 number_in w es (next_whole m) = 0
 
+-- The level of a slot, as it is kept.
 abbrev pub level_in : World → List Entry → Slot → ℕ
 level_in w es (own x) = (entry_at w es x).own.level
 level_in w es (start m i) = (cell_at (past w m) (entry_at w es m).start i).level
@@ -41,6 +46,7 @@ level_in w es (next m i) = (cell_at (past w m) (entry_at w es m).next i).level
 level_in w es (start_whole m) = (entry_at w es m).start.whole
 level_in w es (next_whole m) = (entry_at w es m).next.whole
 
+-- The store that what is kept stands for.
 unfoldable pub store_of : World → Store → meaning.Store
 store_of w s = record {
   number = number_in w s.entries.items;

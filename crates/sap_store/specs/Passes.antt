@@ -8,6 +8,7 @@ use Rattle.sap_meaning.specs.Cycle.{Tagged, given}
 abbrev pub only : World → ℕ → ℕ → Bool
 only w x y = nat_eq x y && nat_lt y (root w)
 
+-- The store with the level of one entity raised.
 abbrev pub raised_one : World → ℕ → ℕ → Store → Store
 raised_one w x t s = raise w.order (only w x) t s
 

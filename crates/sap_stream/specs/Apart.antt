@@ -6,6 +6,7 @@ use Rattle.sap_meaning.specs.Cycle.{Tagged}
 use Rattle.sap_stream.specs.declared.apart.Apart.{Apart}
 use Rattle.sap_stream.specs.declared.apart.Apart.TheVariants.{Lengths, At}
 
+-- The two numbers with levels look alike at or below a level.
 abbrev pub AreAlike : Order → ℕ → Tagged → Tagged → Type 0
 AreAlike o l a b = Alike o l (a.number ≡ b.number) a.level b.level
 

@@ -21,9 +21,11 @@ wire_in _ = None
 abbrev pub texts_in : Data → Option (List (List ℕ))
 texts_in value = option_and_then texts_of (as_array value)
 
+-- The part that a value of the document describes.
 abbrev pub part_of : Data → Option Part
 part_of value = option_and_then part_in (texts_in value)
 
+-- The wire that a value of the document describes.
 abbrev pub wire_of : Data → Option WireText
 wire_of value = option_and_then wire_in (texts_in value)
 
@@ -31,6 +33,7 @@ wire_of value = option_and_then wire_in (texts_in value)
 abbrev pub parts_of : Items → Option (List Part)
 parts_of = each_of part_of
 
+-- The wires that the values of a list describe.
 abbrev pub wires_of : Items → Option (List WireText)
 wires_of = each_of wire_of
 

@@ -7,12 +7,15 @@ use Rattle.sap_system.specs.declared.fault.SysFault.TheVariants.{Rule}
 use Rattle.sap_system.specs.declared.file.Part.{Part}
 use Rattle.sap_system.specs.declared.file.WireText.{WireText}
 
+-- A part of a name and a file.
 abbrev pub part : (name file : List ℕ) → Part
 part name file = record { name = name; file = file }
 
+-- A wire that lets all levels through.
 abbrev pub wire : (from to : List ℕ) → WireText
 wire from to = record { from = from; to = to; level = None }
 
+-- A wire that lets through what is at or below a level.
 abbrev pub wire_through : (from to level : List ℕ) → WireText
 wire_through from to level = record { from = from; to = to; level = Some level }
 
@@ -30,9 +33,11 @@ NoDocument = FirstFault (codes "parts") (Rule K1 0)
 abbrev pub NoWires : Type 0
 NoWires = FirstFault (codes "parts = []") (Rule K2 0)
 
+-- A third key of the document is K2.
 abbrev pub ThirdKey : Type 0
 ThirdKey = FirstFault (codes "parts = []\nwires = []\nlevels = []") (Rule K2 0)
 
+-- A wire of one text is K2.
 abbrev pub OneText : Type 0
 OneText = FirstFault (codes "parts = []\nwires = [['p.x']]") (Rule K2 0)
 
@@ -40,6 +45,7 @@ OneText = FirstFault (codes "parts = []\nwires = [['p.x']]") (Rule K2 0)
 abbrev pub NoParts : Type 0
 NoParts = FirstFault (codes "parts = []\nwires = []") (Rule K3 0)
 
+-- A ninth part is K3.
 abbrev pub NineParts : Type 0
 NineParts = FirstFault (codes "parts = [['p',''],['p',''],['p',''],['p',''],['p',''],['p',''],['p',''],['p',''],['p','']]\nwires = []") (Rule K3 9)
 
@@ -47,8 +53,10 @@ NineParts = FirstFault (codes "parts = [['p',''],['p',''],['p',''],['p',''],['p'
 abbrev pub KeywordName : Type 0
 KeywordName = FirstFault (codes "parts = [['input', 'a']]\nwires = []") (Rule K4 1)
 
+-- A part's name with an underscore is K4.
 abbrev pub UnderscoreName : Type 0
 UnderscoreName = FirstFault (codes "parts = [['p', 'a'], ['q_r', 'b']]\nwires = []") (Rule K4 2)
 
+-- A part's name that stands twice is K4.
 abbrev pub NameTwice : Type 0
 NameTwice = FirstFault (codes "parts = [['p', 'a'], ['p', 'b'], ['', 'c']]\nwires = []") (Rule K4 2)

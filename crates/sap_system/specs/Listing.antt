@@ -8,5 +8,6 @@ pub record Listing : Type 0 where
   pub parts : List Part
   pub wires : List WireText
 
+-- A system of parts and wires.
 abbrev pub listing : List Part → List WireText → Listing
 listing parts wires = record { parts = parts; wires = wires }

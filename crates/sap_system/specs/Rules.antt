@@ -13,9 +13,11 @@ use Rattle.sap_system.specs.declared.file.Part.{Part}
 abbrev pub BadCount : List Part → Type 0
 BadCount parts = (length parts < 1) ⊎ (8 < length parts)
 
+-- The names of the parts.
 abbrev pub part_names : List Part → List (List ℕ)
 part_names parts = map (λ p. p.name) parts
 
+-- The name has an underscore.
 abbrev pub has_underscore : List ℕ → Bool
 has_underscore name = list_any (λ c. c == byte "_") name
 
@@ -28,6 +30,7 @@ pub data BadPartName (names : List (List ℕ)) (k : ℕ) : Type 0 where
 abbrev pub BadPart : List Part → ℕ → Type 0
 BadPart parts k = (k < length parts) × BadPartName (part_names parts) k
 
+-- A system has one to eight parts.
 pub record KeepsCount (parts : List Part) : Type 0 where
   pub some : 1 ≤ length parts
   pub few : length parts ≤ 8

@@ -10,21 +10,27 @@ use Rattle.sap_system.specs.Wires.{NamedPart, Surroundings, FirstLinkFault, Keep
 use Rattle.sap_system.specs.declared.link_fault.LinkCode.TheVariants.{K5, K6, K7, K8, K9}
 use Rattle.sap_system.specs.declared.link_fault.LinkFault.TheVariants.{Rule}
 
+-- A dynamic entity.
 abbrev pub entity : (name : List ℕ) → Declared → Entity
 entity name what = record { name = named name; what = what; dynamic = true }
 
+-- The first part's input and register.
 abbrev pub entities_of_p : List Entity
 entities_of_p = entity (codes "a") (what.Input 8) ∷ entity (codes "x") (what.Register 8) ∷ []
 
+-- The second part's input and registers.
 abbrev pub entities_of_q : List Entity
 entities_of_q = entity (codes "b") (what.Input 8) ∷ entity (codes "y") (what.Register 8) ∷ entity (codes "z") (what.Register 4) ∷ []
 
+-- The first part.
 abbrev pub part_p : NamedPart
 part_p = record { name = codes "p"; entities = entities_of_p }
 
+-- The second part.
 abbrev pub part_q : NamedPart
 part_q = record { name = codes "q"; entities = entities_of_q }
 
+-- The two parts over two levels.
 abbrev pub p_and_q : Surroundings
 p_and_q = record { parts = part_p ∷ part_q ∷ []; levels = codes "low" ∷ codes "high" ∷ [] }
 
@@ -36,6 +42,7 @@ FeedEachOther = KeepsWires p_and_q (wire (codes "p.x") (codes "q.b") ∷ wire_th
 abbrev pub FromInput : Type 0
 FromInput = FirstLinkFault p_and_q (wire (codes "p.a") (codes "q.b") ∷ []) (Rule K5 1)
 
+-- A wire with three faults has the fault of the lowest code.
 abbrev pub AllWrong : Type 0
 AllWrong = FirstLinkFault p_and_q (wire_through (codes "p.a") (codes "q.y") (codes "mid") ∷ []) (Rule K5 1)
 

@@ -31,6 +31,7 @@ pub record Names (u : Surroundings) (text : List ℕ) (i : ℕ) (entity : List �
 abbrev pub NamesRegister : Surroundings → (text : List ℕ) (i : ℕ) (entity : List ℕ) (width : ℕ) → Type 0
 NamesRegister u text i entity width = Names u text i entity (what.Register width)
 
+-- The text names an input of this width.
 abbrev pub NamesInput : Surroundings → (text : List ℕ) (i : ℕ) (entity : List ℕ) (width : ℕ) → Type 0
 NamesInput u text i entity width = Names u text i entity (what.Input width)
 
@@ -80,11 +81,13 @@ Breaks u wires K7 k w = FedBefore u wires k w
 Breaks u wires K8 k w = OtherWidth u w
 Breaks u wires K9 k w = NoLevel u w
 
+-- The wire of this number breaks the rule of this code.
 pub record Stands (u : Surroundings) (wires : List WireText) (code : LinkCode) (k : ℕ) : Type 0 where
   pub wire : WireText
   pub is_wire : slice_get wires k ≡ Some wire
   pub breaks : Breaks u wires code k wire
 
+-- The number of a code.
 abbrev pub number_of_code : LinkCode → ℕ
 number_of_code K5 = 5
 number_of_code K6 = 6

@@ -91,12 +91,14 @@ abbrev pub outcome_then : Setting → Home → (k : ℕ) → Step → (accepted 
 outcome_then d at k s a h =
     if always d.world at s then follow (effect_of d at k s) a else cases (var d (wire_key k)) (follow (effect_of d at k s) a) (refusal d k s h) stop
 
+-- The plain commands of a step with a block for each outcome.
 unfoldable pub attempt_then_of : Setting → Home → (p k : ℕ) → Step → (hangs : ℕ → Bool) → (accepted refused : Body) → Body
 attempt_then_of d at p k s hangs a h = looks d at p k s (raises d hangs (k + 1) (outcome_then d at k s a h))
 
 -- The blocks of a `case` are numbered from 0, the one after `else` last. Which of them runs is a number in a wire, so that there is one comparison for
 -- each constant, and no block stands deeper than that number has bits.
 
+-- How many arms a `case` has beside its `else`.
 abbrev pub arm_count : Arms → ℕ
 arm_count (last_arm b) = 0
 arm_count (and_arm constants b arms) = suc (arm_count arms)
@@ -150,12 +152,15 @@ own_wires (if_else hang e a b) below = 2 + below
 own_wires (try_then s hang a b) below = 5 + below
 own_wires (case_of hang e arms) below = 4 + below
 
+-- How many helping wires a command takes.
 abbrev pub wires : Command → ℕ
 wires c = folded 0 ◌+◌ own_wires c
 
+-- How many helping wires the arms of a `case` take.
 abbrev pub wires_arms : Arms → ℕ
 wires_arms arms = folded_in_arms 0 ◌+◌ own_wires arms
 
+-- How many helping wires a block takes.
 abbrev pub wires_block : Block → ℕ
 wires_block b = folded_in_block 0 ◌+◌ own_wires b
 

@@ -5,6 +5,8 @@ use Rattle.sap_meaning.specs.Program.{root}
 use Rattle.sap_net.specs.PortNames.{value_name, tag_name, seat_name}
 use Rattle.sap_interface.specs.StandsFor.{Named, name, world}
 
+-- A variable of the plain program: a value, a tag, a current child, a refusal and its level, a helping wire, a saved
+-- tag, a context.
 pub data Key : Type 0 where
   -- the number of an input or a register, the contents of a memory
   value_key : ℕ → Key
@@ -22,6 +24,7 @@ pub data Key : Type 0 where
   -- the context of the children of a state
   inner_key : ℕ → Key
 
+-- The two keys are the same.
 abbrev pub same : Key → Key → Bool
 same (value_key x) (value_key y) = nat_eq x y
 same (tag_key x) (tag_key y) = nat_eq x y

@@ -29,6 +29,7 @@ use Rattle.sap_tagged.specs.Plain.{plain_of}
 abbrev pub shows : Nested → Name → PortKind
 shows p n = if is_among n (map (λ x. x.name) p.registers) then kind.Register else kind.Wire
 
+-- The ports that a plain program shows.
 abbrev pub shown : Nested → List Shown
 shown p = map (λ x. (x.name, kind.Input)) p.inputs ++ map (λ n. (n, shows p n)) p.ports
 
@@ -72,6 +73,7 @@ pub record IsSound (ls : Levels) (d : DesignTree) : Type 0 where
 abbrev pub PlainStandsForDesign : Levels → DesignTree → Nested → Type 0
 PlainStandsForDesign ls d p = PlainStandsFor (named_of ls d) (width_of (order_of ls)) (site_count_of d) p
 
+-- For each sound design, its plain program stands for it.
 abbrev pub PlainStands : Type 0
 PlainStands = (ls : Levels) (d : DesignTree) → IsSound ls d → PlainStandsForDesign ls d (plain_for ls d)
 

@@ -10,6 +10,7 @@ use Rattle.sap_ir.specs.Plain.Nested.{seat_width}
 use Rattle.sap_tagged.specs.Keys.{Key, value_key, tag_key, seat_key, first_key}
 use Rattle.sap_tagged.specs.Setting.{Setting}
 
+-- The variable of a key, read.
 abbrev pub var : Setting → Key → Term Name
 var d a = read (d.name a)
 
@@ -25,11 +26,13 @@ lub a b = two Or a b
 abbrev pub below_or_at : Term Name → Term Name → Term Name
 below_or_at a b = two Eq (two Or a b) b
 
+-- The condition that always holds.
 abbrev pub yes : Term Name
 yes = constant 1 1
 
 -- expressions
 
+-- A design's term over the names of values.
 abbrev pub expr : Setting → Term ℕ → Term Name
 expr d e = map_term (λ x. d.name (value_key x)) e
 
@@ -37,6 +40,7 @@ expr d e = map_term (λ x. d.name (value_key x)) e
 abbrev pub cell_tag : Setting → (memory : ℕ) → Term ℕ → Term Name
 cell_tag d m i = if is_dynamic d.world m then var d (first_key m) else cell (d.name (tag_key m)) (expr d i)
 
+-- The term of the tag of a term: the join of the tags of all that it reads.
 abbrev pub tag_of : Setting → Term ℕ → Term Name
 tag_of d (constant u n) = bits d d.world.order.bottom
 tag_of d (read x) = var d (tag_key x)
@@ -51,6 +55,7 @@ tag_of d (part a hi lo) = tag_of d a
 abbrev pub place_width : ℕ → ℕ
 place_width u = if nat_lt u 6 then 6 else u
 
+-- A term with zeros in front up to six bits.
 abbrev pub widened : (width : ℕ) → Term Name → Term Name
 widened u e = if nat_lt u 6 then join (constant (6 - u) 0) e else e
 
@@ -76,6 +81,7 @@ told_tag d (both a b) = lub (told_tag d a) (told_tag d b)
 -- The current child, of the children from the i-th on; `seat` is its number, of u bits. It is one of them, so the last is
 -- compared with nothing.
 
+-- The tag of the current child of a group.
 abbrev pub child_tag : Setting → (u : ℕ) → (seat : Term Name) → Group → (i : ℕ) → Term Name
 child_tag d u seat no_node i = bits d d.world.order.bottom
 child_tag d u seat (and_node (state_node c b k) no_node) i = var d (tag_key c)
@@ -85,6 +91,7 @@ child_tag d u seat (and_node (state_node c b k) (and_node t g)) i = choose (two 
 abbrev pub enters : Setting → (pc : Term Name) → (state : ℕ) → Term Name
 enters d pc c = if is_dynamic d.world c then yes else below_or_at pc (var d (tag_key c))
 
+-- The current child of a group may be entered in this context.
 abbrev pub child_enters : Setting → (pc : Term Name) → (u : ℕ) → (seat : Term Name) → Group → (i : ℕ) → Term Name
 child_enters d pc u seat no_node i = yes
 child_enters d pc u seat (and_node (state_node c b k) no_node) i = enters d pc c
@@ -95,11 +102,13 @@ child_enters d pc u seat (and_node (state_node c b k) (and_node t g)) i =
 abbrev pub seat_bits : Setting → ℕ → ℕ
 seat_bits d s = seat_width (children d.world s)
 
+-- The register of a state's current child, read.
 abbrev pub seat_of : Setting → ℕ → Term Name
 seat_of d s = var d (seat_key s)
 
 -- steps
 
+-- The tag at which a step's test is made, beside the context: that of what it would change, or its authority.
 abbrev pub guard_of : Setting → Home → Step → Term Name
 guard_of d at (assign site x e) = if is_dynamic d.world x then bits d d.world.order.bottom else var d (tag_key x)
 guard_of d at (write site m i e) = if is_dynamic d.world m then bits d d.world.order.bottom else lub (tag_of d i) (cell (d.name (tag_key m)) (expr d i))

@@ -27,9 +27,11 @@ level_at_start d x = d.code (first_level (world d) (own x))
 abbrev pub value_var : Named → (x start : ℕ) → Var
 value_var d x start = variable (key_name d (value_key x)) (width (world d) x) start
 
+-- The variable of an entity's tag.
 abbrev pub tag_var : Named → (tag x start : ℕ) → Var
 tag_var d tag x start = variable (key_name d (tag_key x)) tag start
 
+-- The register of a state's current child.
 abbrev pub seat_var : Named → ℕ → Var
 seat_var d p = variable (key_name d (seat_key p)) (seat_width (children (world d) p)) 0
 
@@ -38,9 +40,11 @@ abbrev pub for_entities : {A : Type 0} → (picks : ℕ → Bool) → (of : ℕ 
 for_entities picks of x [] = []
 for_entities picks of x (e ∷ es) = (if picks x then of x else []) ++ for_entities picks of (x + 1) es
 
+-- What is made of each entity of a kind, in order.
 abbrev pub all_entities : {A : Type 0} → Named → (picks : ℕ → Bool) → (of : ℕ → List A) → List A
 all_entities d picks of = for_entities picks of 0 (world d).entities
 
+-- The inputs of the plain program: a value and a tag for each input of the design.
 abbrev pub inputs_of : Named → (tag : ℕ) → List Var
 inputs_of d tag = all_entities d (is_input (world d)) (λ x. value_var d x 0 ∷ tag_var d tag x 0 ∷ [])
 
@@ -53,12 +57,15 @@ shown_registers d tag =
 abbrev pub has_own_tag : Named → ℕ → Bool
 has_own_tag d x = if is_memory (world d) x then is_dynamic (world d) x else is_state (world d) x
 
+-- The registers of tags that no port shows.
 abbrev pub tag_registers : Named → (tag : ℕ) → List Var
 tag_registers d tag = all_entities d (has_own_tag d) (λ x. tag_var d tag x (level_at_start d x) ∷ [])
 
+-- The registers of current children.
 abbrev pub seat_registers : Named → List Var
 seat_registers d = all_entities d (λ p. nat_lt 0 (children (world d) p)) (λ p. seat_var d p ∷ []) ++ seat_var d (root (world d)) ∷ []
 
+-- The registers of the plain program: those that ports show, the other tags, the current children.
 abbrev pub registers_of : Named → (tag : ℕ) → List Var
 registers_of d tag = shown_registers d tag ++ (tag_registers d tag ++ seat_registers d)
 
@@ -69,12 +76,15 @@ site_wires d tag k (suc n) = variable (key_name d (refused_key k)) 1 0 ∷ varia
 
 -- The program's own wires, each after what it holds: a level, one bit, or of a `case` the number and the number of the block.
 
+-- The helping wire of a number.
 abbrev pub wire : Named → (k width : ℕ) → Var
 wire d k u = variable (key_name d (wire_key k)) u 0
 
+-- The five helping wires of a step.
 abbrev pub step_wires : Named → (tag k : ℕ) → List Var
 step_wires d tag k = wire d k 1 ∷ wire d (k + 1) tag ∷ wire d (k + 2) tag ∷ wire d (k + 3) tag ∷ wire d (k + 4) 1 ∷ []
 
+-- The helping wires of a command, in the order in which they are numbered.
 abbrev mutual
   pub command_wires : Named → (tag k : ℕ) → Command → List Var
   command_wires d tag k (lone s) = step_wires d tag k
@@ -111,6 +121,7 @@ first_wires d tag = all_entities d (saved (world d)) (λ m. variable (key_name d
 abbrev pub inner_wires : Named → (tag : ℕ) → List Var
 inner_wires d tag = all_entities d (λ s. nat_lt 0 (children (world d) s)) (λ s. variable (key_name d (inner_key s)) tag 0 ∷ [])
 
+-- The wires of the plain program: two for each site, the saved tags, the contexts and the helping wires of all bodies.
 abbrev pub wires_of : Named → (tag sites : ℕ) → List Var
 wires_of d tag sites = site_wires d tag 1 sites ++ (first_wires d tag ++ (inner_wires d tag ++ group_wires d tag 0 d.program.states))
 
@@ -118,10 +129,12 @@ wires_of d tag sites = site_wires d tag 1 sites ++ (first_wires d tag ++ (inner_
 abbrev pub memory_of : Named → ℕ → MemoryVariable
 memory_of d m = record { name = key_name d (value_key m); width = width (world d) m; depth = depth d m; start = 0 }
 
+-- The memory of the tags of an enforced memory; a dynamic memory has one tag, in a register.
 abbrev pub tags_of : Named → (tag m : ℕ) → List MemoryVariable
 tags_of d tag m =
     if is_dynamic (world d) m then [] else record { name = key_name d (tag_key m); width = tag; depth = depth d m; start = level_at_start d m } ∷ []
 
+-- The memories of the plain program: values and, for an enforced memory, tags.
 abbrev pub memories_of : Named → (tag : ℕ) → List MemoryVariable
 memories_of d tag = all_entities d (is_memory (world d)) (λ m. memory_of d m ∷ tags_of d tag m)
 

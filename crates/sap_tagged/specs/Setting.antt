@@ -13,5 +13,6 @@ pub record Setting : Type 0 where
   pub name : Key → Name
   pub state_name : ℕ → Name
 
+-- What a design's plain program is made from: its entities, codes of levels, width of tags and names.
 abbrev pub setting_of : Named → (tag : ℕ) → Setting
 setting_of d tag = record { world = world d; code = d.code; tag = tag; name = key_name d; state_name = entity_word d }

@@ -8,6 +8,7 @@ use Rattle.sap_tagged.specs.Keys.{Key, value_key, tag_key, seat_key, refused_key
 use Rattle.sap_tagged.specs.Setting.{Setting}
 use Rattle.sap_tagged.specs.States.{saved}
 
+-- The entity is an input or a register.
 abbrev pub is_value : World → ℕ → Bool
 is_value w x = is_input w x || is_register w x
 
@@ -19,6 +20,7 @@ pub record Lawful (d : Setting) (widths : Name → ℕ) : Type 0 where
   pub values : (x : ℕ) → is_value d.world x ≡ true → widths (d.name (value_key x)) ≡ width d.world x
   pub cells : (m : ℕ) → is_memory d.world m ≡ true → widths (d.name (value_key m)) ≡ width d.world m
 
+-- The number of a key in the middle of a cycle.
 abbrev pub at : Setting → Going → Key → ℕ
 at d g a = g.now.value (d.name a)
 
@@ -47,6 +49,7 @@ abbrev pub refused_after : ℕ → List Refusal → ℕ → ℕ
 refused_after k [] v = v
 refused_after k (r ∷ rs) v = refused_after k rs (if nat_eq r.site k then 1 else v)
 
+-- The code that a site's level wire shows after some refusals: that of the last one at the site.
 abbrev pub level_after : (code : ℕ → ℕ) → ℕ → List Refusal → ℕ → ℕ
 level_after code k [] v = v
 level_after code k (r ∷ rs) v = level_after code k rs (if nat_eq r.site k then code r.level else v)

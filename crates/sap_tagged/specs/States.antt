@@ -12,9 +12,11 @@ use Rattle.sap_tagged.specs.Commands.{gives, for_each, raises, wires_block, bloc
 abbrev pub body_wires : State → ℕ
 body_wires t = 1 + wires_block (body_of t)
 
+-- How many helping wires a state and all states below it take.
 abbrev pub wires_state : State → ℕ
 wires_state t = gathered_from 0 ◌+◌ body_wires t
 
+-- How many helping wires the states of a group and all states below them take.
 abbrev pub wires_group : Group → ℕ
 wires_group g = gathered_from_group 0 ◌+◌ body_wires g
 
@@ -31,6 +33,7 @@ group_plain d parent k (and_node (state_node s b g) rest) =
 abbrev pub saved : World → ℕ → Bool
 saved w m = is_memory w m && is_dynamic w m
 
+-- The tags of dynamic memories are saved at the start of a cycle, as their reads and writes need what was there.
 abbrev pub saves : Setting → Body → Body
 saves d rest = for_each d first_key (saved d.world) (λ m. var d (tag_key m)) rest
 

@@ -21,9 +21,11 @@ use Rattle.sap_program.specs.declared.home.Home.{Home}
 
 -- what they become; a state has none behind it
 
+-- The plain commands of a stored command.
 unfoldable pub command_body : Setting → Home → (p k : ℕ) → Command → Body
 command_body s at p k c = command_plain (setting_in s) (home_in s at) p k (command_of (entities_in s) c)
 
+-- The plain commands of stored commands.
 unfoldable pub commands_body : Setting → Home → (p k : ℕ) → List Command → Body
 commands_body s at p k cs = block_plain (setting_in s) (home_in s at) p k (block_of (entities_in s) cs)
 
@@ -33,9 +35,11 @@ arm_bodies s at p k [] = []
 arm_bodies s at p k (arm ∷ arms) =
     block_plain (setting_in s) (home_in s at) p k (arm_block (entities_in s) arm) ∷ arm_bodies s at p (k + wires_block (arm_block 0 arm)) arms
 
+-- The plain states of a stored state.
 unfoldable pub state_forest : Setting → (parent k : ℕ) → State → Forest
 state_forest s parent k t = group_plain (setting_in s) parent k (and_node (state_of (entities_in s) t) no_node)
 
+-- The plain states of stored states.
 unfoldable pub states_forest : Setting → (parent k : ℕ) → List State → Forest
 states_forest s parent k ts = group_plain (setting_in s) parent k (group_of (entities_in s) ts)
 
@@ -44,6 +48,7 @@ unfoldable pub top_forest : Setting → (k : ℕ) → State → Forest
 top_forest s k t =
     top_plain (setting_in s) (program.listed (flags (entities_in s) s.program.now.hang)) k (and_node (state_of (entities_in s) t) no_node)
 
+-- The plain states of the root's children.
 unfoldable pub tops_forest : Setting → (k : ℕ) → List State → Forest
 tops_forest s k ts =
     top_plain (setting_in s) (program.listed (flags (entities_in s) s.program.now.hang)) k (group_of (entities_in s) ts)

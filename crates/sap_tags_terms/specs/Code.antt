@@ -15,15 +15,19 @@ use Rattle.sap_tags_terms.specs.declared.setting.Setting.{Setting}
 abbrev pub named_over : Levels → Program → Named
 named_over ls p = record { program = program_in (order_of ls) p; names = names_in p; code = codes.code_of (order_of ls) }
 
+-- The design that the pass works on, with its names.
 abbrev pub named_in : Setting → Named
 named_in s = named_over s.lattice.now s.program.now
 
+-- The width of a tag.
 abbrev pub tag_width : Setting → ℕ
 tag_width s = codes.width_of (order_of s.lattice.now)
 
+-- What the definitions of tag insertion take, from what the pass holds.
 abbrev pub setting_in : Setting → pass.Setting
 setting_in s = pass.setting_of (named_in s) (tag_width s)
 
+-- The entities and the lattice that the pass works on.
 abbrev pub world_in : Setting → World
 world_in s = world (named_in s)
 
@@ -31,5 +35,6 @@ world_in s = world (named_in s)
 abbrev pub entities_in : Setting → ℕ
 entities_in s = count s.program.now
 
+-- Where a command stands, as the definitions have it.
 abbrev pub home_in : Setting → Home → checks.Home
 home_in s at = home_of (entities_in s) at

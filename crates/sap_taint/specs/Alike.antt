@@ -40,5 +40,6 @@ RunsRelated R n = AllZip (AreRelated R n)
 abbrev pub InputsRelated : Relation → List TaggedNumber → List TaggedNumber → Type 0
 InputsRelated R = AllZip (λ (a b : TaggedNumber). R (a.number ≡ b.number) a.tag b.tag)
 
+-- Two streams are related cycle by cycle.
 abbrev pub StreamsRelated : Relation → List (List TaggedNumber) → List (List TaggedNumber) → Type 0
 StreamsRelated R = AllZip (InputsRelated R)

@@ -14,9 +14,11 @@ cycle_with y y_tag cell m_tag = record {
   tags = record { value = λ name. if bytes_eq name (codes "v_y") then y_tag else 0; memory = λ memory. m_tag };
 }
 
+-- Two cycles agree at the lowest level.
 abbrev pub AgreeAtLow : (one other : TaggedValuation) → Type 0
 AgreeAtLow one other = AreRelated (LookAlike two_levels (code_of two_levels) 0) storing one other
 
+-- Cycles that differ in high things alone agree; such as differ in a low number or a low tag don't.
 pub record ComparedTaint : Type 0 where
   pub codes : (code_of two_levels 0 ≡ 0) × (code_of two_levels 1 ≡ 1)
   -- They differ in the numbers of v_y and of v_m's cells, with high tags in both.

@@ -67,9 +67,11 @@ AlikeThroughout n =
 abbrev pub with_codes : Order → List Tagged → List TaggedNumber
 with_codes o inputs = map (λ x. record { number = x.number; tag = code_of o x.level }) inputs
 
+-- A stream with each level replaced by its code.
 abbrev pub stream_with_codes : Order → List (List Tagged) → List (List TaggedNumber)
 stream_with_codes o stream = map (with_codes o) stream
 
+-- Each level of a stream is a level of the lattice.
 abbrev pub AreLevels : Order → List (List Tagged) → Type 0
 AreLevels o stream = AllByRecursion (AllByRecursion (λ x. x.level < o.count)) stream
 

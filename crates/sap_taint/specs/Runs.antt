@@ -16,6 +16,7 @@ pub record TaggedNumber : Type 0 where
   pub number : ℕ
   pub tag : ℕ
 
+-- The numbers of tagged inputs.
 abbrev pub numbers_of : List TaggedNumber → List ℕ
 numbers_of inputs = map (λ x. x.number) inputs
 
@@ -59,10 +60,12 @@ abbrev pub value_tag_after : Tags → Name → Option Operand → ℕ
 value_tag_after t x None = t.value x
 value_tag_after t x (Some next) = operand_tag t next
 
+-- The tag of a memory after a clock edge: with a write's tags, else what was there.
 abbrev pub memory_tag_after : TaggedValuation → Name → Option Memory → ℕ
 memory_tag_after c x None = c.tags.memory x
 memory_tag_after c x (Some m) = written_tag c.numbers c.tags m
 
+-- The numbers and tags after the clock edge of a cycle.
 abbrev pub observed_with_tags : Net → TaggedValuation → TaggedValuation
 observed_with_tags n c =
     record {

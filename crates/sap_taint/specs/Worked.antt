@@ -14,9 +14,11 @@ use Rattle.sap_taint.specs.Tags.{Tags, right_tag, written_tag}
 use Rattle.sap_taint.specs.Runs.{TaggedValuation, IsTaintedRun, observed_with_tags}
 use Rattle.sap_taint.specs.Examples.{handing_on, handing_tags_on, swapping, storing, storing_tags}
 
+-- The one name is that of the other's tag.
 abbrev IsTagOf : Name → Name → Type 0
 IsTagOf tag name = name_of_tag name ≡ tag
 
+-- The names of some tags, worked out by hand.
 pub record WorkedNames : Type 0 where
   pub of_value : IsTagOf (codes "t_x") (codes "v_x")
   pub of_longer_value : IsTagOf (codes "t_p_x") (codes "v_p_x")
@@ -24,6 +26,7 @@ pub record WorkedNames : Type 0 where
   pub of_tag : IsTagOf (codes "t_t_x") (codes "t_x")
   pub of_bare_value : IsTagOf (codes "t_v_") (codes "v_")
 
+-- Netlists with room for tags, and some without.
 pub record WorkedClashes : Type 0 where
   pub room : HasRoomForTags handing_on
   pub room_with_memory : HasRoomForTags summing
@@ -39,6 +42,7 @@ pub record WorkedClashes : Type 0 where
 abbrev some_tags : Tags
 some_tags = record { value = λ x. unwrap_or (find ((codes "a", 1) ∷ (codes "b", 2) ∷ (codes "c", 4) ∷ []) x) 0; memory = λ _. 8 }
 
+-- The right side has this tag, where the names' tags are those of the example.
 abbrev HasTag : Right → ℕ → Type 0
 HasTag right tag = right_tag some_tags right ≡ tag
 
@@ -46,6 +50,7 @@ HasTag right tag = right_tag some_tags right ≡ tag
 abbrev all_are : ℕ → Valuation
 all_are n = record { value = λ _. n; cell = λ _ _. 0 }
 
+-- A memory whose write port reads names.
 abbrev by_names : Memory
 by_names =
     record {
@@ -58,9 +63,11 @@ by_names =
       value = Named (codes "b");
     }
 
+-- The memory takes this tag at the edge.
 abbrev TakesTag : Valuation → ℕ → Type 0
 TakesTag v tag = written_tag v some_tags by_names ≡ tag
 
+-- The tags of some right sides, worked out by hand.
 pub record WorkedTags : Type 0 where
   pub constant : HasTag (Copy (Constant 8 5)) 0
   pub copy : HasTag (Copy (Named (codes "a"))) 1

@@ -5,6 +5,7 @@ use Rattle.sap_taint.specs.TagNames.{IsClash}
 use Rattle.sap_taint_pass.specs.declared.fault.TaintFault.{TaintFault}
 use Rattle.sap_taint_pass.specs.declared.fault.TaintFault.TheVariants.{Clash, Memory}
 
+-- How a fault of `taint` is written.
 abbrev pub taint_text : TaintFault → List ℕ
 taint_text (Clash x) = codes "X1 " ++ x
 taint_text Memory = codes "memory"

@@ -28,6 +28,7 @@ abbrev pub free_number : (taken : List Name) (k : ℕ) → ℕ
 free_number taken zero = next_free taken 1
 free_number taken (suc k) = next_free taken (free_number taken k + 1)
 
+-- The name of a further helping wire: the number is free.
 abbrev pub helping_name : Net → (k : ℕ) → Name
 helping_name n k = numbered (free_number (taken_names n) k)
 

@@ -18,6 +18,7 @@ concatenated (Concat os) = length os
 concatenated (Slice x hi lo) = 0
 concatenated (Cell m i) = 0
 
+-- The parts of all concatenations.
 abbrev pub all_concatenated : List Wire → ℕ
 all_concatenated [] = 0
 all_concatenated (x ∷ xs) = concatenated x.right + all_concatenated xs
@@ -26,5 +27,6 @@ all_concatenated (x ∷ xs) = concatenated x.right + all_concatenated xs
 abbrev pub HasFewItems : (n m : Net) → Type 0
 HasFewItems n m = items m ≤ 3 * length n.wires + 2 * length n.registers + 6 * length n.memories + all_concatenated n.wires
 
+-- For each netlist with room for tags, the netlist with tags has few more items.
 abbrev pub TaintedIsSmall : Type 0
 TaintedIsSmall = (w : ℕ) (n : Net) → HasRoomForTags n → HasFewItems n (tainted w n)

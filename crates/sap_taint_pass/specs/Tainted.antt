@@ -30,6 +30,7 @@ tags_of [] = []
 tags_of (Named x ∷ os) = name_of_tag x ∷ tags_of os
 tags_of (Constant u n ∷ os) = tags_of os
 
+-- The tags that a wire's tag is the union of.
 abbrev pub tags_read : Wire → List Name
 tags_read x = tags_of (operands_of x.right)
 
@@ -38,14 +39,17 @@ abbrev pub tag_operand : (w : ℕ) → Operand → Operand
 tag_operand w (Named x) = Named (name_of_tag x)
 tag_operand w (Constant u n) = Constant w 0
 
+-- The union of two operands' tags.
 abbrev pub joint : (w : ℕ) → Operand → Operand → Right
 joint w (Named x) (Named y) = Two Or (Named (name_of_tag x)) (Named (name_of_tag y))
 joint w (Named x) (Constant u n) = Copy (Named (name_of_tag x))
 joint w (Constant u n) b = Copy (tag_operand w b)
 
+-- The wire of a tag.
 abbrev pub tag_wire : (w : ℕ) → Name → Right → Wire
 tag_wire w x right = record { name = x; width = w; right = right }
 
+-- A wire that is the union of two tags.
 abbrev pub union : (w : ℕ) → (x a b : Name) → Wire
 union w x a b = tag_wire w x (Two Or (Named a) (Named b))
 
@@ -56,6 +60,7 @@ joins helping w k x t (a ∷ []) = union w x t a ∷ []
 joins helping w k x t (a ∷ (b ∷ ts)) =
     union w (helping k) t a ∷ joins helping w (k + 1) x (helping k) (b ∷ ts)
 
+-- The wires that make the union of some tags.
 abbrev pub joined : (helping : ℕ → Name) (w k : ℕ) (x : Name) → List Name → List Wire
 joined helping w k x [] = tag_wire w x (Copy (Constant w 0)) ∷ []
 joined helping w k x (t ∷ ts) = joins helping w k x t ts
@@ -72,6 +77,7 @@ tag_wires helping w k [] = []
 tag_wires helping w k (x ∷ xs) =
     joined helping w k (name_of_tag x.name) (tags_read x) ++ tag_wires helping w (k + help_for (tags_read x)) xs
 
+-- How many helping wires the tags of wires take.
 abbrev pub help_for_wires : List Wire → ℕ
 help_for_wires [] = 0
 help_for_wires (x ∷ xs) = help_for (tags_read x) + help_for_wires xs
@@ -86,13 +92,16 @@ write_by w m kept new chosen all =
     ∷ union w all kept chosen
     ∷ []
 
+-- The wires of a memory's tag, with helping wires from a number on.
 abbrev pub write_at : (helping : ℕ → Name) (w k : ℕ) → Memory → List Wire
 write_at helping w k m = write_by w m (helping k) (helping (k + 1)) (helping (k + 2)) (helping (k + 3))
 
+-- The wires of memories' tags.
 abbrev pub write_wires : (helping : ℕ → Name) (w k : ℕ) → List Memory → List Wire
 write_wires helping w k [] = []
 write_wires helping w k (m ∷ ms) = write_at helping w k m ++ write_wires helping w (k + 4) ms
 
+-- How many helping wires the tags of memories take.
 abbrev pub help_for_writes : List Memory → ℕ
 help_for_writes [] = 0
 help_for_writes (m ∷ ms) = 4 + help_for_writes ms
@@ -101,6 +110,7 @@ help_for_writes (m ∷ ms) = 4 + help_for_writes ms
 abbrev pub memory_tag : (w : ℕ) → Memory → (next : Name) → Register
 memory_tag w m next = record { name = name_of_tag m.name; width = w; start = 0; next = Named next }
 
+-- The registers of memories' tags.
 abbrev pub memory_tags : (helping : ℕ → Name) (w k : ℕ) → List Memory → List Register
 memory_tags helping w k [] = []
 memory_tags helping w k (m ∷ ms) = memory_tag w m (helping (k + 3)) ∷ memory_tags helping w (k + 4) ms
@@ -109,6 +119,7 @@ memory_tags helping w k (m ∷ ms) = memory_tag w m (helping (k + 3)) ∷ memory
 abbrev pub register_tag : (w : ℕ) → Register → Register
 register_tag w r = record { name = name_of_tag r.name; width = w; start = 0; next = tag_operand w r.next }
 
+-- The registers, each with that of its tag.
 abbrev pub tagged_registers : (w : ℕ) → List Register → List Register
 tagged_registers w [] = []
 tagged_registers w (r ∷ rs) = r ∷ register_tag w r ∷ tagged_registers w rs
@@ -118,6 +129,7 @@ abbrev pub found_first : Option Register → List Register → List Register
 found_first None rs = rs
 found_first (Some r) rs = r ∷ rs
 
+-- The registers in the order of some names.
 abbrev pub in_order : List Name → List Register → List Register
 in_order [] rs = []
 in_order (x ∷ xs) rs = found_first (find (map (λ r. (r.name, r)) rs) x) (in_order xs rs)
@@ -131,6 +143,7 @@ numbers_from k (suc count) = k ∷ numbers_from (k + 1) count
 abbrev pub all_registers : (helping : ℕ → Name) (w : ℕ) → Net → List Register
 all_registers helping w n = tagged_registers w n.registers ++ memory_tags helping w (help_for_wires n.wires) n.memories
 
+-- The wires of a netlist with tags: its own, the tags of wires and those of memories.
 abbrev pub all_wires : (helping : ℕ → Name) (w : ℕ) → Net → List Wire
 all_wires helping w n = n.wires ++ (tag_wires helping w 0 n.wires ++ write_wires helping w (help_for_wires n.wires) n.memories)
 
@@ -138,6 +151,7 @@ all_wires helping w n = n.wires ++ (tag_wires helping w 0 n.wires ++ write_wires
 abbrev pub help_count : Net → ℕ
 help_count n = help_for_wires n.wires + help_for_writes n.memories
 
+-- The names of all further helping wires.
 abbrev pub helping_names : (helping : ℕ → Name) → Net → List Name
 helping_names helping n = map helping (numbers_from 0 (help_count n))
 

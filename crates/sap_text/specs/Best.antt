@@ -11,10 +11,12 @@ unfoldable pub best_of : {A : Type 0} → (A → A → Bool) → Option A → Li
 best_of comes_first o [] = o
 best_of comes_first o (x ∷ xs) = best_of comes_first (better comes_first o x) xs
 
+-- A value is one of a list's.
 abbrev pub StandsIn : {A : Type 0} → A → List A → Type 0
 StandsIn a [] = ⊥
 StandsIn a (x ∷ xs) = (a ≡ x) ⊎ StandsIn a xs
 
+-- A value comes before all of a list's.
 abbrev pub BeforeAll : {A : Type 0} → (A → A → Type 0) → A → List A → Type 0
 BeforeAll Before a [] = Unit {0}
 BeforeAll Before a (x ∷ xs) = Before a x × BeforeAll Before a xs

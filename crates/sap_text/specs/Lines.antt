@@ -17,5 +17,6 @@ lines_between [] = []
 lines_between (text ∷ []) = if length text == 0 then [] else record { text = text; ended = false } ∷ []
 lines_between (text ∷ (next ∷ rest)) = record { text = text; ended = true } ∷ lines_between (next ∷ rest)
 
+-- The lines of a text, each with whether an LF ends it.
 unfoldable pub lines_of : List ℕ → List Line
 lines_of bytes = lines_between (split_at 10 bytes)

@@ -12,9 +12,11 @@ use Rattle.sap_lattice.specs.Examples.{low_high}
 use Rattle.sap_sim.specs.Labelled.Examples.{given}
 use Rattle.sap_trace.specs.Lines.{labelled_trace}
 
+-- A `goto`.
 abbrev pub goes : List ℕ → Command
 goes name = lone (go_to nowhere (named name))
 
+-- A read of input a.
 abbrev pub reads_a : Expression
 reads_a = read (codes "a")
 

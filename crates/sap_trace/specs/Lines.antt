@@ -17,6 +17,7 @@ use Rattle.sap_check.specs.SiteTexts.{site_target}
 use Rattle.sap_sim.specs.Told.{told_from}
 use Rattle.sap_sim.specs.Labelled.LabelledRows.{level_name}
 
+-- The head of a line of a trace: the cycle and the site.
 unfoldable pub line_head : (cycle k : ℕ) → List ℕ
 line_head cycle k = codes "cycle " ++ decimal cycle ++ codes ": site " ++ decimal k ++ codes " "
 
@@ -33,9 +34,11 @@ site_at d k = slice_get (sites_of d) (k - 1)
 abbrev pub line_before : DesignTree → (cycle k : ℕ) → List ℕ
 line_before d cycle k = line_head cycle k ++ target_text (entities_of d) (site_at d k) ++ codes " at "
 
+-- The line of a refusal at a site.
 abbrev pub site_line : DesignTree → (cycle k : ℕ) → (level : List ℕ) → List ℕ
 site_line d cycle k level = line_before d cycle k ++ level ++ line_end
 
+-- The line of a refusal.
 abbrev pub refusal_line : Levels → DesignTree → (cycle : ℕ) → Refusal → List ℕ
 refusal_line ls d cycle r = site_line d cycle r.site (level_name ls r.level)
 
@@ -43,6 +46,7 @@ refusal_line ls d cycle r = site_line d cycle r.site (level_name ls r.level)
 abbrev pub refusal_lines : Levels → DesignTree → (cycle : ℕ) → List Refusal → List ℕ
 refusal_lines ls d cycle rs = flat_map (refusal_line ls d cycle) rs
 
+-- The lines of a run, from a cycle on.
 abbrev pub trace_of_run : Levels → DesignTree → (cycle : ℕ) → List After → List ℕ
 trace_of_run ls d = told_from (λ cycle (a : After). refusal_lines ls d cycle a.refused)
 

@@ -33,6 +33,7 @@ pub record ArePlaced (n : Net) (names : ℕ → Name) (count : ℕ) (places : Li
   pub within : (k : ℕ) → k < count → get_or places k 0 < length (value_names n)
   pub named : (k : ℕ) → k < count → IsPlaceOf n (names (k + 1)) (get_or places k 0)
 
+-- The wires of refusals and of their levels have their places in the net.
 pub record AreWires (n : Net) (count : ℕ) (w : Wires) : Type 0 where
   pub refused : ArePlaced n refused_name count w.refused.items
   pub levels : ArePlaced n refused_level_name count w.levels.items

@@ -39,6 +39,7 @@ HasLinesMore ls d n = TellsMore (cycle_lines ls d) n (given ls)
 abbrev pub AreLines : Levels → DesignTree → Net → (lines : List (List Given)) → (text : List ℕ) → Type 0
 AreLines ls d n = TellsAll (cycle_lines ls d) n (given ls)
 
+-- The text and the fault of a trace.
 abbrev pub trace_as : (text : List ℕ) → Option StimFault → Trace
 trace_as text fault = record { text = text; fault = fault }
 

@@ -11,18 +11,23 @@ use Rattle.sap_tree.specs.declared.syntax.Kind.{Kind}
 use Rattle.sap_tree.specs.declared.syntax.Numeral.{Numeral}
 use Rattle.sap_tree.specs.declared.syntax.Under.{Under}
 
+-- The one place that every token has once places are left out.
 abbrev pub nowhere : Place
 nowhere = record { line = 1; column = 1 }
 
+-- The two places of an expression once places are left out.
 abbrev pub no_spot : Spot
 no_spot = record { first = nowhere; at = nowhere }
 
+-- A mentioned name without its place.
 abbrev pub bare_name : Mention → Mention
 bare_name m = record { place = nowhere; name = m.name }
 
+-- A number of the text without its place.
 abbrev pub bare_number : Numeral → Numeral
 bare_number n = record { place = nowhere; value = n.value }
 
+-- An expression without places.
 unfoldable mutual
   pub bare_expression : Expression → Expression
   bare_expression (literal spot n) = literal no_spot n
@@ -40,6 +45,7 @@ unfoldable mutual
   bare_expressions no_part = no_part
   bare_expressions (and_part x parts) = and_part (bare_expression x) (bare_expressions parts)
 
+-- A tag expression without places.
 unfoldable mutual
   pub bare_tag : TagExpression → TagExpression
   bare_tag (level_of level) = level_of (bare_name level)
@@ -51,6 +57,7 @@ unfoldable mutual
   bare_tags no_tag = no_tag
   bare_tags (and_tag x parts) = and_tag (bare_tag x) (bare_tags parts)
 
+-- A step without places.
 unfoldable pub bare_simple : SimpleCommand → SimpleCommand
 bare_simple (assign register x) = assign (bare_name register) (bare_expression x)
 bare_simple (write memory index x) = write (bare_name memory) (bare_expression index) (bare_expression x)
@@ -59,6 +66,7 @@ bare_simple (set_cell_tag place memory index n) = set_cell_tag nowhere (bare_nam
 bare_simple (go_to place target) = go_to nowhere (bare_name target)
 bare_simple (fall_to_child place) = fall_to_child nowhere
 
+-- A command without places.
 unfoldable mutual
   pub bare_command : Command → Command
   bare_command (lone c) = lone (bare_simple c)
@@ -82,23 +90,28 @@ unfoldable mutual
   bare_list no_command = no_command
   bare_list (and_command c list) = and_command (bare_command c) (bare_list list)
 
+-- The authority of an enforced entity without places.
 abbrev pub bare_authority : Option Under → Option Under
 bare_authority None = None
 bare_authority (Some under) = Some record { place = nowhere; level = bare_name under.level }
 
+-- A kind, enforced or dynamic, without places.
 abbrev pub bare_kind : Kind → Kind
 bare_kind (k.Dynamic place) = k.Dynamic nowhere
 bare_kind (k.Enforced level authority) = k.Enforced (bare_name level) (bare_authority authority)
 
+-- A start number without its place.
 abbrev pub bare_start : Option Numeral → Option Numeral
 bare_start None = None
 bare_start (Some n) = Some (bare_number n)
 
+-- A declaration without places.
 abbrev pub bare_declaration : Decl → Decl
 bare_declaration (d.Input place name width) = d.Input nowhere (bare_name name) (bare_number width)
 bare_declaration (d.Register place name width kind start) = d.Register nowhere (bare_name name) (bare_number width) (bare_kind kind) (bare_start start)
 bare_declaration (d.Memory place name width depth kind) = d.Memory nowhere (bare_name name) (bare_number width) (bare_number depth) (bare_kind kind)
 
+-- A state without places.
 unfoldable mutual
   pub bare_state : StateTree → StateTree
   bare_state (state_node place name kind body children) = state_node nowhere (bare_name name) (bare_kind kind) (bare_block body) (bare_states children)
@@ -107,5 +120,6 @@ unfoldable mutual
   bare_states no_state = no_state
   bare_states (and_state s states) = and_state (bare_state s) (bare_states states)
 
+-- The tree of a design without places: two texts that differ only in layout have the same.
 unfoldable pub bare : DesignTree → DesignTree
 bare design = record { version = design.version; declarations = map bare_declaration design.declarations; states = bare_states design.states }

@@ -13,6 +13,7 @@ parentheses asked x = if nat_lt (precedence_of x) asked then 2 else 0
 abbrev pub opened : ℕ → Expression → ℕ
 opened asked x = if nat_lt (precedence_of x) asked then 1 else 0
 
+-- The number of tokens of an expression, and of the parts of a concatenation.
 unfoldable mutual
   pub tokens : Expression → ℕ
   tokens (literal spot n) = 1
@@ -31,6 +32,7 @@ unfoldable mutual
   part_tokens no_part = 0
   part_tokens (and_part x parts) = tokens x + 1 + part_tokens parts
 
+-- How many of an expression's brackets are open at once at most, and of those of a concatenation's parts.
 unfoldable mutual
   pub brackets : Expression → ℕ
   brackets (literal spot n) = 0
@@ -48,6 +50,7 @@ unfoldable mutual
   part_brackets no_part = 0
   part_brackets (and_part x parts) = max (brackets x) (part_brackets parts)
 
+-- The number of tokens of a tag expression, and of the operands of a join.
 unfoldable mutual
   pub tag_tokens : TagExpression → ℕ
   tag_tokens (level_of name) = 1
@@ -60,6 +63,7 @@ unfoldable mutual
   tag_part_tokens no_tag = 0
   tag_part_tokens (and_tag x parts) = tag_tokens x + 1 + tag_part_tokens parts
 
+-- How many of a tag expression's brackets are open at once at most, and of those of a join's operands.
 unfoldable mutual
   pub tag_brackets : TagExpression → ℕ
   tag_brackets (level_of name) = 0
@@ -75,5 +79,6 @@ unfoldable mutual
 abbrev pub fits : Expression → Bool
 fits x = nat_le (tokens x) most_tokens && nat_le (brackets x) most_brackets
 
+-- A tag expression keeps to the limits of one expression: its tokens, and the brackets that are open at once.
 abbrev pub tag_fits : TagExpression → Bool
 tag_fits x = nat_le (tag_tokens x) most_tokens && nat_le (tag_brackets x) most_brackets

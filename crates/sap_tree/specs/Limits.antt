@@ -5,15 +5,19 @@ use Rattle.std.specs.Prelude.{ℕ}
 abbrev pub most_name_bytes : ℕ
 most_name_bytes = 40
 
+-- A design has at most 64 inputs.
 abbrev pub most_inputs : ℕ
 most_inputs = 64
 
+-- A design has at most 256 registers.
 abbrev pub most_registers : ℕ
 most_registers = 256
 
+-- A design has at most 16 memories.
 abbrev pub most_memories : ℕ
 most_memories = 16
 
+-- A design has at most 256 states.
 abbrev pub most_states : ℕ
 most_states = 256
 

@@ -19,15 +19,19 @@ precedence b.Add = 7
 precedence b.Sub = 7
 precedence b.Mul = 8
 
+-- A unary operator binds tighter than each binary operator.
 abbrev pub unary_precedence : ℕ
 unary_precedence = 9
 
+-- A slice binds tighter than a unary operator.
 abbrev pub slice_precedence : ℕ
 slice_precedence = 10
 
+-- A number, a name, a cell, and what is in brackets bind tightest.
 abbrev pub primary_precedence : ℕ
 primary_precedence = 11
 
+-- How tightly an expression binds: the precedence of its outermost operator.
 unfoldable pub precedence_of : Expression → ℕ
 precedence_of (literal spot n) = primary_precedence
 precedence_of (sized_literal spot w n) = primary_precedence

@@ -3,6 +3,7 @@ use Rattle.sap_tree.specs.Syntax.{Expression, literal, sized_literal, variable, 
 use Rattle.sap_text.specs.declared.place.Place.{Place}
 use Rattle.sap_tree.specs.declared.place.Spot.{Spot}
 
+-- The two places of an expression: of its first token, and of the token that faults name.
 unfoldable pub spot_of : Expression → Spot
 spot_of (literal spot n) = spot
 spot_of (sized_literal spot w n) = spot
@@ -20,6 +21,7 @@ unfoldable pub first_of : Expression → Place
 unfolding spot_of
 first_of x = (spot_of x).first
 
+-- The same expression, but its first token is at another place, as that of an opening parenthesis.
 abbrev pub from_place : Place → Spot → Spot
 from_place place spot = record { first = place; at = spot.at }
 

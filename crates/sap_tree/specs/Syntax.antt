@@ -12,6 +12,7 @@ use Rattle.sap_tree.specs.declared.syntax.UnaryOperator.{UnaryOperator}
 use Rattle.sap_tree.specs.declared.version.Version.{Version}
 
 mutual
+  -- An expression as it is written, with the place of each part.
   pub data Expression : Type 0 where
     literal : Spot → (value : ℕ) → Expression
     sized_literal : Spot → (width value : ℕ) → Expression
@@ -24,18 +25,21 @@ mutual
     concat : Spot → Expressions → Expression
     zero_extend : Spot → Expression → (width : ℕ) → Expression
 
+  -- The parts of a concatenation, the highest bits first.
   pub data Expressions : Type 0 where
     no_part : Expressions
     and_part : Expression → Expressions → Expressions
 
 -- the places are those of the words `tag`, `level` and `join`
 mutual
+  -- An expression of a level: a level's name, the tag of an expression, the level at a place, or a join of several.
   pub data TagExpression : Type 0 where
     level_of : Mention → TagExpression
     tag_at : Place → Expression → TagExpression
     level_at : Place → Expression → TagExpression
     join_of : Place → TagExpressions → TagExpression
 
+  -- The parts of a join of levels.
   pub data TagExpressions : Type 0 where
     no_tag : TagExpressions
     and_tag : TagExpression → TagExpressions → TagExpressions
@@ -50,6 +54,8 @@ pub data SimpleCommand : Type 0 where
   fall_to_child : Place → SimpleCommand
 
 mutual
+  -- A command: a step alone, a step with a handler for its refusal, `if`, a step with a block for each outcome, or
+  -- `case`.
   pub data Command : Type 0 where
     lone : SimpleCommand → Command
     try : SimpleCommand → (otherwise : Place) → (handler : CommandBlock) → Command
@@ -71,15 +77,18 @@ mutual
     last_arm : CommandBlock → Arms
     and_arm : (constants : Expressions) → CommandBlock → Arms → Arms
 
+  -- A list of commands in the order in which they are written.
   pub data CommandList : Type 0 where
     no_command : CommandList
     and_command : Command → CommandList → CommandList
 
 -- a state and its children; the place is that of the word `state`
 mutual
+  -- A state with its kind, its body and its children.
   pub data StateTree : Type 0 where
     state_node : Place → (name : Mention) → Kind → (body : CommandBlock) → (children : StateList) → StateTree
 
+  -- A list of states in the order in which they are written.
   pub data StateList : Type 0 where
     no_state : StateList
     and_state : StateTree → StateList → StateList

@@ -22,6 +22,7 @@ declares_dynamic x (d.Input place name width) = false
 declares_dynamic x (d.Register place name width kind start) = bytes_eq name.name x && is_dynamic_kind kind
 declares_dynamic x (d.Memory place name width depth kind) = bytes_eq name.name x && is_dynamic_kind kind
 
+-- This is the name of a dynamic register or memory of these declarations.
 unfoldable pub is_dynamic_store : List Decl → List ℕ → Bool
 is_dynamic_store declarations x = list_any (declares_dynamic x) declarations
 
@@ -32,6 +33,7 @@ is_dynamic_child (and_state (state_node place name kind body children) states) x
 
 -- whether a command assigns x, as a register or as a memory
 
+-- A step assigns or writes the register or memory of this name.
 abbrev pub simple_assigns : SimpleCommand → List ℕ → Bool
 simple_assigns (assign register e) x = bytes_eq register.name x
 simple_assigns (write memory index e) x = bytes_eq memory.name x
@@ -40,18 +42,23 @@ simple_assigns (set_cell_tag place memory index n) x = false
 simple_assigns (go_to place target) x = false
 simple_assigns (fall_to_child place) x = false
 
+-- A command, or one in its blocks, assigns or writes the register or memory of this name.
 unfoldable pub assigns : Command → List ℕ → Bool
 assigns c x = some (λ k. simple_assigns k x) c
 
+-- A command of this block does so.
 unfoldable pub block_assigns : CommandBlock → List ℕ → Bool
 block_assigns block x = some_in_block (λ k. simple_assigns k x) block
 
+-- A command of this `else` does so.
 unfoldable pub else_assigns : ElseBlock → List ℕ → Bool
 else_assigns other x = some_in_else (λ k. simple_assigns k x) other
 
+-- A command of these arms does so.
 unfoldable pub arms_assign : Arms → List ℕ → Bool
 arms_assign arms x = some_in_arms (λ k. simple_assigns k x) arms
 
+-- A command of this list does so.
 unfoldable pub list_assigns : CommandList → List ℕ → Bool
 list_assigns list x = some_in_list (λ k. simple_assigns k x) list
 
@@ -59,6 +66,7 @@ list_assigns list x = some_in_list (λ k. simple_assigns k x) list
 unfoldable pub state_assigns : StateTree → List ℕ → Bool
 state_assigns s x = gathered_from false ◌||◌ (λ s. block_assigns (body_of s) x) s
 
+-- A command in the bodies of these states or of their descendants does so.
 unfoldable pub states_assign : StateList → List ℕ → Bool
 states_assign states x = gathered_from_list false ◌||◌ (λ s. block_assigns (body_of s) x) states
 
@@ -68,6 +76,7 @@ pub record Home : Type 0 where
   pub kind : Kind
   pub children : StateList
 
+-- What a body's commands know of their own state: its name, its kind and its children.
 abbrev pub home_of : StateTree → Home
 home_of (state_node place name kind body children) = record { name = name.name; kind = kind; children = children }
 
@@ -75,6 +84,8 @@ home_of (state_node place name kind body children) = record { name = name.name; 
 unfoldable pub fall_touches : List Decl → StateList → List ℕ → Bool
 fall_touches declarations states x = is_dynamic_child states x || (is_dynamic_store declarations x && states_assign states x)
 
+-- A step touches a dynamic entity: its own target, with `goto` the state in which it appears, and with `fall` what the
+-- children touch.
 unfoldable pub simple_touches : List Decl → Home → SimpleCommand → List ℕ → Bool
 simple_touches declarations home (assign register e) x = is_dynamic_store declarations x && bytes_eq register.name x
 simple_touches declarations home (write memory index e) x = is_dynamic_store declarations x && bytes_eq memory.name x
@@ -83,18 +94,23 @@ simple_touches declarations home (set_cell_tag place memory index n) x = false
 simple_touches declarations home (go_to place target) x = is_dynamic_kind home.kind && bytes_eq home.name x
 simple_touches declarations home (fall_to_child place) x = fall_touches declarations home.children x
 
+-- A command, or one in its blocks, touches the entity of this name.
 unfoldable pub touches : List Decl → Home → Command → List ℕ → Bool
 touches declarations home c x = some (λ k. simple_touches declarations home k x) c
 
+-- A command of this block does so.
 unfoldable pub block_touches : List Decl → Home → CommandBlock → List ℕ → Bool
 block_touches declarations home block x = some_in_block (λ k. simple_touches declarations home k x) block
 
+-- A command of this `else` does so.
 unfoldable pub else_touches : List Decl → Home → ElseBlock → List ℕ → Bool
 else_touches declarations home other x = some_in_else (λ k. simple_touches declarations home k x) other
 
+-- A command of these arms does so.
 unfoldable pub arms_touch : List Decl → Home → Arms → List ℕ → Bool
 arms_touch declarations home arms x = some_in_arms (λ k. simple_touches declarations home k x) arms
 
+-- A command of this list does so.
 unfoldable pub list_touches : List Decl → Home → CommandList → List ℕ → Bool
 list_touches declarations home list x = some_in_list (λ k. simple_touches declarations home k x) list
 

@@ -14,6 +14,7 @@ use Rattle.sap_tree.specs.declared.syntax.TagExpr.{TagExpr, Row_of-TagExpr, end_
 use Rattle.sap_tree.specs.declared.syntax.TagExpr.TheVariants as t
 use Rattle.sap_tree.specs.Syntax
 
+-- The tree of an expression.
 unfoldable mutual
   pub expression_of : Expr → Syntax.Expression
   expression_of (e.Number spot n) = Syntax.literal spot n
@@ -31,10 +32,12 @@ unfoldable mutual
   expression_row_of end_of-Expr = Syntax.no_part
   expression_row_of (more_of-Expr x rest) = Syntax.and_part (expression_of x) (expression_row_of rest)
 
+-- The trees of these expressions, in order.
 abbrev pub expressions_of : List Expr → Syntax.Expressions
 expressions_of [] = Syntax.no_part
 expressions_of (x ∷ xs) = Syntax.and_part (expression_of x) (expressions_of xs)
 
+-- The tree of a tag expression.
 unfoldable mutual
   pub tag_of : TagExpr → Syntax.TagExpression
   tag_of (t.Level name) = Syntax.level_of name
@@ -46,10 +49,12 @@ unfoldable mutual
   tag_row_of end_of-TagExpr = Syntax.no_tag
   tag_row_of (more_of-TagExpr x rest) = Syntax.and_tag (tag_of x) (tag_row_of rest)
 
+-- The trees of these tag expressions, in order.
 abbrev pub tags_of : List TagExpr → Syntax.TagExpressions
 tags_of [] = Syntax.no_tag
 tags_of (x ∷ xs) = Syntax.and_tag (tag_of x) (tags_of xs)
 
+-- The tree of a step.
 abbrev pub simple_of : Simple → Syntax.SimpleCommand
 simple_of (s.Assign name x) = Syntax.assign name (expression_of x)
 simple_of (s.Write name i x) = Syntax.write name (expression_of i) (expression_of x)
@@ -58,6 +63,7 @@ simple_of (s.SetCellTag place name i n) = Syntax.set_cell_tag place name (expres
 simple_of (s.Goto place target) = Syntax.go_to place target
 simple_of (s.Fall place) = Syntax.fall_to_child place
 
+-- The tree of a command.
 unfoldable mutual
   pub command_of : Cmd → Syntax.Command
   command_of (c.Do k) = Syntax.lone (simple_of k)
@@ -82,18 +88,22 @@ unfoldable mutual
   command_row_of end_of-Cmd = Syntax.no_command
   command_row_of (more_of-Cmd x rest) = Syntax.and_command (command_of x) (command_row_of rest)
 
+-- The trees of these commands, in order.
 abbrev pub commands_of : List Cmd → Syntax.CommandList
 commands_of [] = Syntax.no_command
 commands_of (x ∷ xs) = Syntax.and_command (command_of x) (commands_of xs)
 
+-- The tree of a block.
 abbrev pub block_of : Block → Syntax.CommandBlock
 block_of b = Syntax.command_block (commands_of b.commands.items) b.after
 
 -- the constants of an arm, and its block
 
+-- The trees of the constants of an arm.
 abbrev pub constants_of : Arm → Syntax.Expressions
 constants_of arm = expressions_of arm.constants.items
 
+-- The tree of the block of an arm.
 abbrev pub arm_block_of : Arm → Syntax.CommandBlock
 arm_block_of arm = block_of arm.block
 
@@ -106,10 +116,12 @@ arms_before (arm ∷ arms) others = Syntax.and_arm (constants_of arm) (arm_block
 abbrev pub arms_of : List Arm → Syntax.CommandBlock → Syntax.Arms
 arms_of arms last = arms_before arms (Syntax.last_arm last)
 
+-- The tree of an `else`, if there is one.
 abbrev pub else_of : Option Block → Syntax.ElseBlock
 else_of None = Syntax.no_else
 else_of (Some b) = Syntax.with_else (block_of b)
 
+-- The tree of a state, with its children.
 unfoldable mutual
   pub state_of : State → Syntax.StateTree
   state_of (State' place name kind body shape row) = Syntax.state_node place name kind (block_of body) (state_row_of row)
@@ -118,6 +130,7 @@ unfoldable mutual
   state_row_of end_of-State = Syntax.no_state
   state_row_of (more_of-State x rest) = Syntax.and_state (state_of x) (state_row_of rest)
 
+-- The trees of these states, in order.
 abbrev pub states_of : List State → Syntax.StateList
 states_of [] = Syntax.no_state
 states_of (x ∷ xs) = Syntax.and_state (state_of x) (states_of xs)

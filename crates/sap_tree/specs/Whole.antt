@@ -16,15 +16,19 @@ use Rattle.sap_tree.specs.declared.version.Version.{Version}
 
 -- numbers are below 2^64
 
+-- A number of a text is below 2^64.
 abbrev pub is_number : ℕ → Bool
 is_number n = nat_lt n (2 ^ 64)
 
 -- expressions: each name is a name, each number a number, and a concatenation has two or more parts
 
+-- A concatenation has at least two parts.
 abbrev pub has_two_parts : Expressions → Bool
 has_two_parts (and_part x (and_part y parts)) = true
 has_two_parts parts = false
 
+-- An expression is one of the grammar in this version: names are names, numbers are below 2^64, and a concatenation has
+-- two parts or more.
 unfoldable mutual
   pub is_expression : Version → Expression → Bool
   is_expression version (literal spot n) = is_number n
@@ -42,10 +46,12 @@ unfoldable mutual
   are_expressions version no_part = true
   are_expressions version (and_part x parts) = is_expression version x && are_expressions version parts
 
+-- A join has at least two operands.
 abbrev pub has_two_tags : TagExpressions → Bool
 has_two_tags (and_tag x (and_tag y parts)) = true
 has_two_tags parts = false
 
+-- A tag expression is one of the grammar in this version, and a join in it has two operands or more.
 unfoldable mutual
   pub is_tag : Version → TagExpression → Bool
   is_tag version (level_of level) = is_name version level.name
@@ -59,12 +65,15 @@ unfoldable mutual
 
 -- commands: each expression in them that stands in no other is short enough
 
+-- An expression that is part of no other is one of the grammar and keeps to its limits.
 abbrev pub is_outermost : Version → Expression → Bool
 is_outermost version x = is_expression version x && fits x
 
+-- A tag expression that is part of no other is one of the grammar and keeps to its limits.
 abbrev pub is_outermost_tag : Version → TagExpression → Bool
 is_outermost_tag version x = is_tag version x && tag_fits x
 
+-- A step is one of the grammar in this version: its names and its expressions are.
 unfoldable pub is_simple : Version → SimpleCommand → Bool
 is_simple version (assign register x) = is_name version register.name && is_outermost version x
 is_simple version (write memory index x) = is_name version memory.name && is_outermost version index && is_outermost version x
@@ -75,23 +84,28 @@ is_simple version (fall_to_child place) = true
 
 -- a `case` has an arm, and an arm has a constant: a number with or without a width
 
+-- A constant of an arm is a number, with or without a width.
 abbrev pub is_constant : Expression → Bool
 is_constant (literal spot n) = is_number n
 is_constant (sized_literal spot w n) = is_number w && is_number n
 is_constant x = false
 
+-- Each of these expressions is a constant.
 abbrev pub are_constants : Expressions → Bool
 are_constants no_part = true
 are_constants (and_part x parts) = is_constant x && are_constants parts
 
+-- An arm has at least one constant.
 abbrev pub has_constant : Expressions → Bool
 has_constant no_part = false
 has_constant (and_part x parts) = true
 
+-- The number of arms before the `else` of a `case`.
 abbrev pub arm_count : Arms → ℕ
 arm_count (last_arm block) = 0
 arm_count (and_arm constants block arms) = 1 + arm_count arms
 
+-- A `case` has at least one arm before its `else`.
 abbrev pub has_arm : Arms → Bool
 has_arm (last_arm block) = false
 has_arm (and_arm constants block arms) = true
@@ -126,71 +140,90 @@ one_more part below = 1 + below
 
 -- how many commands there are, those in blocks counted
 
+-- The number of commands in a command, itself included.
 unfoldable pub command_count : Command → ℕ
 command_count c = folded 0 ◌+◌ one_more c
 
+-- The number of commands in a block.
 unfoldable pub block_count : CommandBlock → ℕ
 block_count block = folded_in_block 0 ◌+◌ one_more block
 
+-- The number of commands in an `else`.
 unfoldable pub else_count : ElseBlock → ℕ
 else_count other = folded_in_else 0 ◌+◌ one_more other
 
+-- The number of commands in the arms of a `case`.
 unfoldable pub arms_count : Arms → ℕ
 arms_count arms = folded_in_arms 0 ◌+◌ one_more arms
 
+-- The number of commands in a list.
 unfoldable pub list_count : CommandList → ℕ
 list_count list = folded_in_list 0 ◌+◌ one_more list
 
 -- the depth of the deepest command: 1 for a command in no block, and one more for those in its blocks
 
+-- How many blocks are nested in a command, itself included.
 unfoldable pub command_depth : Command → ℕ
 command_depth c = folded 0 max one_more c
 
+-- How many commands are nested in a block.
 unfoldable pub block_depth : CommandBlock → ℕ
 block_depth block = folded_in_block 0 max one_more block
 
+-- How many commands are nested in an `else`.
 unfoldable pub else_depth : ElseBlock → ℕ
 else_depth other = folded_in_else 0 max one_more other
 
+-- How many commands are nested in the arms of a `case`.
 unfoldable pub arms_depth : Arms → ℕ
 arms_depth arms = folded_in_arms 0 max one_more arms
 
+-- How many commands are nested in a list.
 unfoldable pub list_depth : CommandList → ℕ
 list_depth list = folded_in_list 0 max one_more list
 
 -- kinds and declarations
 
+-- The authority of an enforced entity, if it is written, has a name of this version.
 abbrev pub is_authority : Version → Option Under → Bool
 is_authority version None = true
 is_authority version (Some under) = is_name version under.level.name
 
+-- The names of a kind are names of this version.
 abbrev pub is_kind : Version → Kind → Bool
 is_kind version (k.Dynamic place) = true
 is_kind version (k.Enforced level authority) = is_name version level.name && is_authority version authority
 
+-- A start number, if it is written, is below 2^64.
 abbrev pub is_start : Option Numeral → Bool
 is_start None = true
 is_start (Some n) = is_number n.value
 
+-- A declaration is one of the grammar in this version: its names are, and its numbers are below 2^64.
 abbrev pub is_declaration : Version → Decl → Bool
 is_declaration version (d.Input place name width) = is_name version name.name && is_number width.value
 is_declaration version (d.Register place name width kind start) = is_name version name.name && is_number width.value && is_kind version kind && is_start start
 is_declaration version (d.Memory place name width depth kind) = is_name version name.name && is_number width.value && is_number depth.value && is_kind version kind
 
+-- This declares an input.
 abbrev pub is_input : Decl → Bool
 is_input (d.Input place name width) = true
 is_input declaration = false
 
+-- This declares a register.
 abbrev pub is_register : Decl → Bool
 is_register (d.Register place name width kind start) = true
 is_register declaration = false
 
+-- This declares a memory.
 abbrev pub is_memory : Decl → Bool
 is_memory (d.Memory place name width depth kind) = true
 is_memory declaration = false
 
 -- states
 
+-- A state is one of the grammar in this version, with its body and its children, and its body keeps to the limit on
+-- nesting.
 unfoldable mutual
   pub is_state : Version → StateTree → Bool
   is_state version (state_node place name kind body children) =
@@ -200,9 +233,11 @@ unfoldable mutual
   are_states version no_state = true
   are_states version (and_state s states) = is_state version s && are_states version states
 
+-- The number of states in a state, itself included.
 unfoldable pub state_count : StateTree → ℕ
 state_count s = folded_from 0 ◌+◌ one_more s
 
+-- The number of these states and of their descendants.
 unfoldable pub states_count : StateList → ℕ
 states_count states = folded_from_list 0 ◌+◌ one_more states
 
@@ -210,6 +245,7 @@ states_count states = folded_from_list 0 ◌+◌ one_more states
 unfoldable pub state_depth : StateTree → ℕ
 state_depth s = folded_from 0 max one_more s
 
+-- How many states are nested in these, themselves included.
 unfoldable pub states_depth : StateList → ℕ
 states_depth states = folded_from_list 0 max one_more states
 
@@ -217,11 +253,13 @@ states_depth states = folded_from_list 0 max one_more states
 unfoldable pub state_commands : StateTree → ℕ
 state_commands s = gathered_from 0 ◌+◌ (λ s. block_count (body_of s)) s
 
+-- The number of commands in the bodies of these states and of their descendants.
 unfoldable pub states_commands : StateList → ℕ
 states_commands states = gathered_from_list 0 ◌+◌ (λ s. block_count (body_of s)) states
 
 -- designs
 
+-- There is at least one state.
 abbrev pub has_state : StateList → Bool
 has_state no_state = false
 has_state (and_state s states) = true
@@ -240,5 +278,6 @@ is_within_limits design =
     && nat_le (states_depth design.states) most_nesting
     && nat_le (states_commands design.states) most_commands
 
+-- A tree is that of a text: the grammar makes it, and it keeps to all limits.
 unfoldable pub is_whole : DesignTree → Bool
 is_whole design = is_tree design && is_within_limits design

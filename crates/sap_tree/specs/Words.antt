@@ -37,9 +37,11 @@ abbrev pub first_words : List Word
 first_words = w.Input ∷ w.Reg ∷ w.Mem ∷ w.State ∷ w.Dynamic ∷ w.Enforced ∷ w.Under ∷ w.If ∷ w.Else ∷ w.Goto ∷ w.Fall ∷ w.SetTag
     ∷ w.Otherwise ∷ w.Tag ∷ w.Level ∷ w.Join ∷ w.Zext ∷ []
 
+-- The words that version 2 has more than version 1.
 abbrev pub later_words : List Word
 later_words = w.Then ∷ w.Case ∷ []
 
+-- This is version 2.
 abbrev pub is_second : Version → Bool
 is_second v.One = false
 is_second v.Two = true
@@ -49,8 +51,10 @@ abbrev pub keywords : Version → List (List ℕ)
 keywords v.One = design_keywords
 keywords v.Two = design_keywords ++ map word_text later_words
 
+-- This is a keyword of a version, so no name.
 abbrev pub is_keyword : Version → List ℕ → Bool
 is_keyword version name = is_among name (keywords version)
 
+-- A name is a word of at most so many bytes that is no keyword of its version.
 unfoldable pub is_name : Version → List ℕ → Bool
 is_name version name = is_word name && not (is_keyword version name) && nat_le (length name) most_name_bytes

@@ -10,12 +10,15 @@ use Rattle.sap_net.specs.IsNetlist.{names_of}
 use Rattle.sap_trim.specs.Names.{lasting_names, shown_wires}
 use Rattle.sap_trim.specs.Replaced.{Stands, standing, standing_operand}
 
+-- A shown wire, a copy of what stands for it.
 abbrev pub wire_of : Stands → Wire → Wire
 wire_of e w = record { name = w.name; width = w.width; right = Copy (standing e w.name) }
 
+-- A register whose next operand is replaced by what stands for it.
 abbrev pub register_of : Stands → Register → Register
 register_of e r = record { name = r.name; width = r.width; start = r.start; next = standing_operand e r.next }
 
+-- A memory whose write port's operands are replaced by what stands for them.
 abbrev pub memory_of : Stands → Memory → Memory
 memory_of e m =
     record {

@@ -12,6 +12,7 @@ abbrev pub numbered : ℕ → List Name
 numbered zero = []
 numbered (suc k) = numbered k ++ helper k ∷ []
 
+-- The names of the ports.
 abbrev pub port_names : Net → List Name
 port_names n = map (λ p. p.name) n.ports
 

@@ -13,13 +13,16 @@ use Rattle.sap_net.specs.declared.parts.Register.{Register}
 use Rattle.sap_net.specs.declared.parts.Memory.{Memory}
 use Rattle.sap_trim.specs.Names.{helping_wires}
 
+-- The name that an operand reads.
 abbrev pub operand_reads : Operand → List Name
 operand_reads (Named x) = x ∷ []
 operand_reads (Constant w n) = []
 
+-- The names that operands read.
 abbrev pub operands_reads : List Operand → List Name
 operands_reads os = flat_map operand_reads os
 
+-- The names that a right side reads; the memory of a cell is no such name.
 abbrev pub right_reads : Right → List Name
 right_reads (Copy a) = operand_reads a
 right_reads (One op a) = operand_reads a
@@ -29,12 +32,15 @@ right_reads (Concat os) = operands_reads os
 right_reads (Slice x hi lo) = x ∷ []
 right_reads (Cell m i) = operand_reads i
 
+-- The names that wires read.
 abbrev pub wire_reads : List Wire → List Name
 wire_reads ws = flat_map (λ w. right_reads w.right) ws
 
+-- The names that registers read at the edge.
 abbrev pub register_reads : List Register → List Name
 register_reads rs = flat_map (λ r. operand_reads r.next) rs
 
+-- The names that memories' write ports read.
 abbrev pub memory_reads : List Memory → List Name
 memory_reads [] = []
 memory_reads (m ∷ ms) = operand_reads m.enable ++ (operand_reads m.index ++ (operand_reads m.value ++ memory_reads ms))

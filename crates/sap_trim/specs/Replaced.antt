@@ -11,13 +11,16 @@ use Rattle.sap_fold.specs.Slices.{sliced}
 abbrev pub Stands : Type 0
 Stands = Name → Option Operand
 
+-- What stands for a name.
 abbrev pub standing : Stands → Name → Operand
 standing e x = unwrap_or (e x) (Constant 0 0)
 
+-- What stands for an operand: a constant stands for itself.
 abbrev pub standing_operand : Stands → Operand → Operand
 standing_operand e (Named x) = standing e x
 standing_operand e (Constant w n) = Constant w n
 
+-- A right side with each operand replaced by what stands for it.
 abbrev pub replaced : Stands → Right → Right
 replaced e (Copy a) = Copy (standing_operand e a)
 replaced e (One op a) = One op (standing_operand e a)

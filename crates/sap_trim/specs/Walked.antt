@@ -23,9 +23,11 @@ pub record State : Type 0 where
   pub next : ℕ
   pub stands : Stands
 
+-- What the walk holds, as the definitions have it.
 abbrev pub state_of : Walk → State
 state_of w = record { wires = w.wires.list.items; next = w.wires.next; stands = find w.stands }
 
+-- P holds of some register.
 abbrev pub SomeRegister : (Register → Type 0) → List Register → Type 0
 SomeRegister P [] = ⊥
 SomeRegister P (r ∷ rs) = P r ⊎ SomeRegister P rs
@@ -38,6 +40,7 @@ StartsAt ws x o r = KeepsStart ws r × (r.name ≡ x) × (o ≡ Some (Constant r
 abbrev pub Starts : List Wire → List Register → Name → (before after : Option Operand) → Type 0
 Starts ws rs x before after = (after ≡ before) ⊎ SomeRegister (StartsAt ws x after) rs
 
+-- A name stands for itself.
 abbrev pub itself : Name → Name × Operand
 itself x = (x, Named x)
 

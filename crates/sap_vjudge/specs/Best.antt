@@ -9,6 +9,7 @@ use Rattle.sap_vjudge.specs.FirstFault.{number}
 abbrev pub comes_first : Fault → Fault → Bool
 comes_first a b = nat_lt a.place b.place || (a.place == b.place && nat_le (number a.code) (number b.code))
 
+-- The fault that comes first of two.
 abbrev pub better : Option Fault → Fault → Option Fault
 better o f = best.better comes_first o f
 

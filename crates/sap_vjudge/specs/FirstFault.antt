@@ -7,6 +7,7 @@ use Rattle.sap_vjudge.specs.declared.code.Code.TheVariants as code
 use Rattle.sap_vjudge.specs.declared.fault.JudgeFault.{JudgeFault}
 use Rattle.sap_vjudge.specs.declared.fault.JudgeFault.TheVariants.{Rule, Memory}
 
+-- The number of a code.
 abbrev pub number : Code → ℕ
 number code.V3 = 3
 number code.V4 = 4

@@ -31,15 +31,19 @@ word_among list text = find (λ word. bytes_eq text (word_text (word_of word))) 
 abbrev pub declaration_words : List Word
 declaration_words = w.Module ∷ w.Endmodule ∷ w.Input ∷ w.Output ∷ w.Reg ∷ w.Wire ∷ []
 
+-- The keywords with which items begin, beside the declarations'.
 abbrev pub item_words : List Word
 item_words = w.Assign ∷ w.Initial ∷ w.Always ∷ w.Posedge ∷ []
 
+-- The keywords within items.
 abbrev pub inner_words : List Word
 inner_words = w.If ∷ w.For ∷ w.Integer ∷ w.Clk ∷ w.I ∷ []
 
+-- The keyword within items that a text is.
 abbrev pub inner_word : List ℕ → Option Word
 inner_word text = word_among inner_words text
 
+-- The keyword of items that a text is.
 abbrev pub item_word : List ℕ → Option Word
 item_word text = word_among (item_words ++ inner_words) text
 
@@ -47,17 +51,21 @@ item_word text = word_among (item_words ++ inner_words) text
 abbrev pub word_in : List ℕ → Option Word
 word_in text = word_among (declaration_words ++ item_words ++ inner_words) text
 
+-- A keyword as a token, else a name.
 abbrev pub word_or_name : Option Word → List ℕ → ℕ → Lexeme
 word_or_name (Some word) name len = Token (k.Word word) len
 word_or_name None name len = Token (k.Name name) len
 
+-- The word with which the bytes begin.
 unfoldable pub name_at : List ℕ → Lexeme
 name_at bytes = let name = take (run c.Inner bytes) bytes in word_or_name (word_in name) name (run c.Inner bytes)
 
+-- A number as a token, where it is below the bound.
 abbrev pub number_lexeme : Option ℕ → ℕ → Lexeme
 number_lexeme (Some n) len = Token (k.Number n len) len
 number_lexeme None len = Bad
 
+-- A constant as a token, where both numbers are below the bound.
 abbrev pub constant_lexeme : Option ℕ → Option ℕ → ℕ → Lexeme
 constant_lexeme (Some width) (Some n) len = Token (k.Constant width n) len
 constant_lexeme (Some width) None len = Bad
@@ -68,11 +76,13 @@ abbrev pub is_constant : (width : ℕ) → List ℕ → Bool
 is_constant width bytes =
     not (slice_index bytes 0 == byte "0") && (slice_index bytes width == byte "'" && (slice_index bytes (width + 1) == byte "d" && is_ascii_digit (slice_index bytes (width + 2))))
 
+-- The constant with which the bytes begin.
 unfoldable pub constant_at : (width : ℕ) → List ℕ → Lexeme
 constant_at width bytes =
     let digits = run c.Decimal (drop (width + 2) bytes) in
     constant_lexeme (number_of 10 (take width bytes)) (number_of 10 (take digits (drop (width + 2) bytes))) (width + 2 + digits)
 
+-- The number with which the bytes begin.
 unfoldable pub number_at : List ℕ → Lexeme
 number_at bytes =
     let digits = run c.Decimal bytes in
@@ -86,6 +96,7 @@ sign_among list text = find (λ sign. bytes_eq text (sign_text (sign_of sign))) 
 abbrev pub pair_signs : List Sign
 pair_signs = s.Equal ∷ s.NotEqual ∷ s.LessOrEqual ∷ s.ShiftLeft ∷ s.ShiftRight ∷ []
 
+-- The signs of one byte.
 abbrev pub single_signs : List Sign
 single_signs =
     s.OpenParen ∷ s.CloseParen ∷ s.OpenBrace ∷ s.CloseBrace ∷ s.OpenBracket ∷ s.CloseBracket ∷ s.Comma ∷ s.Semicolon ∷ s.Colon ∷ s.Question ∷ s.At ∷ s.Is ∷ s.Less ∷ s.Plus
@@ -95,19 +106,24 @@ single_signs =
 unfoldable pub pair_sign : ℕ → ℕ → Option Sign
 pair_sign first second = sign_among pair_signs (first ∷ second ∷ [])
 
+-- The sign of one byte.
 unfoldable pub single_sign : ℕ → Option Sign
 single_sign byte = sign_among single_signs (byte ∷ [])
 
+-- A sign as a token, else another lexeme.
 abbrev pub sign_or : Option Sign → ℕ → Lexeme → Lexeme
 sign_or (Some sign) len other = Token (k.Sign sign) len
 sign_or None len other = other
 
+-- The sign of one byte with which the bytes begin.
 unfoldable pub single_at : List ℕ → Lexeme
 single_at bytes = sign_or (single_sign (slice_index bytes 0)) 1 Bad
 
+-- The longest sign with which the bytes begin.
 unfoldable pub sign_at : List ℕ → Lexeme
 sign_at bytes = sign_or (pair_sign (slice_index bytes 0) (slice_index bytes 1)) 2 (single_at bytes)
 
+-- What the bytes begin with.
 unfoldable pub lexeme_of : List ℕ → Lexeme
 lexeme_of bytes =
     let first = slice_index bytes 0 in

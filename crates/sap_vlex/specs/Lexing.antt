@@ -20,6 +20,7 @@ pub data IsBadAt : ℕ → List ℕ → ℕ → Type 0 where
   token_first : {from place : ℕ} {bs : List ℕ} (kind : Kind) (len : ℕ) → front bs ≡ token kind len → IsBadAt (from + len) (drop len bs) place
       → IsBadAt from bs place
 
+-- The fault is that of the first byte where no token stands.
 abbrev pub IsLexFault : List ℕ → ReadFault → Type 0
 IsLexFault text (f.V1 place) = IsBadAt 0 text place
 IsLexFault text (f.V2 place) = ⊥

@@ -9,6 +9,7 @@ use Rattle.sap_vlex.specs.declared.token.Token.{Token}
 use Rattle.sap_vlex.specs.declared.token.Word.{Word}
 use Rattle.sap_vlex.specs.declared.token.Word.TheVariants as w
 
+-- The keyword that a stored one stands for.
 abbrev pub word_of : Word → t.Word
 word_of w.Module = t.module_word
 word_of w.Endmodule = t.endmodule_word
@@ -26,6 +27,7 @@ word_of w.Integer = t.integer_word
 word_of w.Clk = t.clk_word
 word_of w.I = t.i_word
 
+-- The sign that a stored one stands for.
 abbrev pub sign_of : Sign → t.Sign
 sign_of s.OpenParen = t.open_paren
 sign_of s.CloseParen = t.close_paren
@@ -53,6 +55,7 @@ sign_of s.Bar = t.bar
 sign_of s.Caret = t.caret
 sign_of s.Tilde = t.tilde
 
+-- The kind of token that a stored one stands for.
 abbrev pub kind_of_token : Kind → t.Kind
 kind_of_token (k.Word word) = t.word (word_of word)
 kind_of_token (k.Sign sign) = t.sign (sign_of sign)
@@ -60,8 +63,10 @@ kind_of_token (k.Name name) = t.name name
 kind_of_token (k.Number n digits) = t.number n digits
 kind_of_token (k.Constant width n) = t.constant width n
 
+-- The token that a stored one stands for.
 abbrev pub token_of : Token → t.Token
 token_of x = record { place = x.place; kind = kind_of_token x.kind }
 
+-- The tokens that stored ones stand for.
 abbrev pub tokens_of : List Token → List t.Token
 tokens_of ts = map token_of ts

@@ -47,6 +47,7 @@ pub data IsBehind : List Token → Behind → List Token → Type 0 where
   choose : {ts k l m n r : List Token} {y z : Operand} → IsSign ts t.question k → IsOperand k (operand_of y) l → IsSign l t.colon m → IsOperand m (operand_of z) n
       → IsSign n t.semicolon r → IsBehind ts (b.Choose y z) r
 
+-- The right side of a first operand and what follows it.
 abbrev pub right_with : item.Operand → Behind → item.Right
 right_with x b.Nothing = item.copy x
 right_with x (b.Two op y) = item.two op x (operand_of y)
@@ -62,15 +63,18 @@ pub data RegisterEnds : List Token → Option Number → List Token → Type 0 w
   cells : {ts a b c d e r : List Token} {last : Number} → IsSign ts t.open_bracket a → IsDigit a 0 b → IsSign b t.colon c → IsNumber c (number_of last) d
       → IsSign d t.close_bracket e → IsSign e t.semicolon r → RegisterEnds ts (Some last) r
 
+-- The declaration of a register, or of a memory where a last index follows.
 abbrev pub register_with : item.Number → item.Mention → Option Number → item.Item
 register_with range x None = item.register range x
 register_with range x (Some last) = item.memory range x (number_of last)
 
 -- behind `initial`, and behind `always` with its clock, the rest of an item
 
+-- An item, behind its word `initial`.
 abbrev pub AfterInitial : List Token → item.Item → List Token → Type 0
 AfterInitial old x new = (ts : List Token) → IsWord ts t.initial_word old → IsItem ts x new
 
+-- An item, behind its `always @(posedge clk)`.
 abbrev pub AfterClock : List Token → item.Item → List Token → Type 0
 AfterClock old x new = (ts : List Token) → IsClocked ts old → IsItem ts x new
 

@@ -13,11 +13,13 @@ use Rattle.sap_vparse.specs.declared.cursor.Fault.{Fault}
 use Rattle.sap_vparse.specs.declared.row.Fixed.TheVariants as k
 use Rattle.sap_vparse.specs.declared.row.Fixed.{Fixed}
 
+-- The grammar's symbol for a fixed token.
 abbrev pub symbol_of : Fixed → Symbol
 symbol_of (k.Word word) = s.word (word_of word)
 symbol_of (k.Sign sign) = s.sign (sign_of sign)
 symbol_of (k.Digit digit) = s.digit digit
 
+-- The grammar's symbols for fixed tokens.
 abbrev pub symbols_of : List Fixed → List Symbol
 symbols_of xs = map symbol_of xs
 
@@ -41,6 +43,7 @@ IsFixed ts (k.Sign sign) r = IsSign ts (sign_of sign) r
 IsFixed ts (k.Digit digit) r = IsDigit ts digit r
 
 infixr 10 ◌then◌
+-- The tokens begin with these fixed tokens.
 pub data AreFixed : List t.Token → List Fixed → List t.Token → Type 0 where
   done : {r : List t.Token} → AreFixed r [] r
   ◌then◌ : {ts m r : List t.Token} {x : Fixed} {xs : List Fixed} → IsFixed ts x m → AreFixed m xs r → AreFixed ts (x ∷ xs) r
@@ -49,12 +52,15 @@ pub data AreFixed : List t.Token → List Fixed → List t.Token → Type 0 wher
 abbrev pub NumberThen : List t.Token → item.Number → List Fixed → List t.Token → Type 0
 NumberThen ts n xs r = (m : List t.Token) × IsNumber ts n m × AreFixed m xs r
 
+-- The tokens begin with a constant and then these fixed tokens.
 abbrev pub ConstantThen : List t.Token → item.Constant → List Fixed → List t.Token → Type 0
 ConstantThen ts c xs r = (m : List t.Token) × IsConstant ts c m × AreFixed m xs r
 
+-- The tokens begin with a name and then these fixed tokens.
 abbrev pub NameThen : List t.Token → item.Mention → List Fixed → List t.Token → Type 0
 NameThen ts x xs r = (m : List t.Token) × IsName ts x m × AreFixed m xs r
 
+-- The tokens begin with an operand and then these fixed tokens.
 abbrev pub OperandThen : List t.Token → item.Operand → List Fixed → List t.Token → Type 0
 OperandThen ts x xs r = (m : List t.Token) × IsOperand ts x m × AreFixed m xs r
 
@@ -63,10 +69,12 @@ pub data Part : Type 0 where
   single : Symbol → Part
   several : List Symbol → Part
 
+-- The tokens that are left after a part of a production.
 abbrev pub reads_part : Part → List t.Token → Outcome
 reads_part (single s) ts = reads s ts
 reads_part (several σ) ts = reads_row σ ts
 
+-- The tokens that are left after parts in turn.
 abbrev pub in_turn : List Part → List t.Token → Outcome
 in_turn [] ts = Ok ts
 in_turn (x ∷ xs) ts = reads_part x ts >>= in_turn xs

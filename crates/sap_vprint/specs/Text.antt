@@ -19,10 +19,12 @@ pub data Piece : Type 0 where
   number : ℕ → Piece
   operand : Operand → Piece
 
+-- How an operand is written.
 abbrev pub operand_text : Operand → List ℕ
 operand_text (item.named x) = x.name
 operand_text (item.constant c) = decimal c.width ++ (codes "'d" ++ decimal c.value)
 
+-- How a piece is written.
 abbrev pub piece_text : Piece → List ℕ
 piece_text space = 32 ∷ []
 piece_text line = 10 ∷ []
@@ -35,6 +37,7 @@ piece_text (name n) = n
 piece_text (number n) = decimal n
 piece_text (operand x) = operand_text x
 
+-- How pieces are written, one behind the other.
 abbrev pub text_of : List Piece → List ℕ
 text_of ps = flat_map piece_text ps
 
@@ -42,6 +45,7 @@ text_of ps = flat_map piece_text ps
 abbrev pub range_pieces : ℕ → List Piece
 range_pieces n = sign t.open_bracket ∷ number n ∷ sign t.colon ∷ zero ∷ sign t.close_bracket ∷ space ∷ []
 
+-- How an operator of one operand is written.
 abbrev pub unary_text : Op1 → List ℕ
 unary_text op = sign_text (unary_sign op)
 
@@ -49,6 +53,7 @@ unary_text op = sign_text (unary_sign op)
 abbrev pub binary_text : Op2 → List ℕ
 binary_text op = 32 ∷ (sign_text (binary_sign op) ++ (32 ∷ []))
 
+-- A further part of a concatenation.
 abbrev pub part_pieces : Operand → List Piece
 part_pieces x = sign t.comma ∷ space ∷ operand x ∷ []
 
@@ -57,6 +62,7 @@ abbrev pub parts_pieces : List Operand → List Piece
 parts_pieces [] = []
 parts_pieces (x ∷ xs) = operand x ∷ flat_map part_pieces xs
 
+-- The pieces of a right side.
 abbrev pub right_pieces : Right → List Piece
 right_pieces (item.copy x) = operand x ∷ []
 right_pieces (item.one op x) = sign (unary_sign op) ∷ operand x ∷ []
@@ -78,9 +84,11 @@ loop_pieces n =
     ∷ space ∷ word t.i_word ∷ space ∷ sign t.less ∷ space ∷ number n ∷ sign t.semicolon
     ∷ space ∷ word t.i_word ∷ space ∷ sign t.is ∷ space ∷ word t.i_word ∷ space ∷ sign t.plus ∷ space ∷ one ∷ sign t.close_paren ∷ space ∷ []
 
+-- The end of an item.
 abbrev pub end_of_item : List Piece
 end_of_item = sign t.semicolon ∷ line ∷ []
 
+-- The pieces of an item.
 abbrev pub item_pieces : Item → List Piece
 item_pieces (item.wire n x) = word t.wire_word ∷ space ∷ (range_pieces n.value ++ (name x.name ∷ end_of_item))
 item_pieces (item.register n x) = word t.reg_word ∷ space ∷ (range_pieces n.value ++ (name x.name ∷ end_of_item))
@@ -100,15 +108,19 @@ item_pieces (item.always_cell condition x index value) =
     ++ (word t.if_word ∷ space ∷ sign t.open_paren ∷ operand condition ∷ sign t.close_paren ∷ space ∷ name x.name ∷ sign t.open_bracket ∷ operand index
     ∷ sign t.close_bracket ∷ space ∷ sign t.less_or_equal ∷ space ∷ operand value ∷ end_of_item)
 
+-- How an item is written.
 unfoldable pub item_text : Item → List ℕ
 item_text x = text_of (item_pieces x)
 
+-- How items are written.
 abbrev pub items_text : List Item → List ℕ
 items_text xs = text_of (flat_map item_pieces xs)
 
+-- How `always @(posedge clk)` is written.
 unfoldable pub clocked_text : List ℕ
 clocked_text = text_of clocked_pieces
 
+-- How the loop over a memory's cells is written.
 unfoldable pub loop_text : ℕ → List ℕ
 loop_text n = text_of (loop_pieces n)
 
@@ -116,14 +128,17 @@ loop_text n = text_of (loop_pieces n)
 abbrev pub new_port : List Piece
 new_port = sign t.comma ∷ line ∷ space ∷ space ∷ []
 
+-- The pieces of a direction.
 abbrev pub direction_pieces : Direction → List Piece
 direction_pieces item.input = word t.input_word ∷ space ∷ []
 direction_pieces item.output_register = word t.output_word ∷ space ∷ word t.reg_word ∷ space ∷ []
 direction_pieces item.output_wire = word t.output_word ∷ space ∷ word t.wire_word ∷ space ∷ []
 
+-- The pieces of a port.
 abbrev pub port_pieces : Port → List Piece
 port_pieces p = new_port ++ (direction_pieces p.direction ++ (range_pieces p.range.value ++ (name p.name.name ∷ [])))
 
+-- How a port is written.
 unfoldable pub port_text : Port → List ℕ
 port_text p = text_of (port_pieces p)
 
@@ -132,11 +147,14 @@ abbrev pub head_pieces : List ℕ → List Piece
 head_pieces n =
     comment ∷ line ∷ word t.module_word ∷ space ∷ name n ∷ sign t.open_paren ∷ line ∷ space ∷ space ∷ word t.input_word ∷ space ∷ word t.clk_word ∷ []
 
+-- The end of the ports.
 abbrev pub end_of_ports : List Piece
 end_of_ports = line ∷ sign t.close_paren ∷ sign t.semicolon ∷ line ∷ []
 
+-- The end of the module.
 abbrev pub end_of_file : List Piece
 end_of_file = word t.endmodule_word ∷ line ∷ []
 
+-- The pieces of a module.
 abbrev pub file_pieces : File → List Piece
 file_pieces f = head_pieces f.module_name ++ (flat_map port_pieces f.ports ++ (end_of_ports ++ (flat_map item_pieces f.items ++ end_of_file)))

@@ -5,6 +5,7 @@ use Rattle.sap_vjudge.specs.declared.code.Code.TheVariants as judged
 use Rattle.sap_vread.specs.declared.fault.ModCode.{ModCode}
 use Rattle.sap_vread.specs.declared.fault.ModCode.TheVariants.{V1, V2, V3, V4, V5, V6, V7}
 
+-- The number of a code.
 abbrev pub number : ModCode → ℕ
 number V1 = 1
 number V2 = 2

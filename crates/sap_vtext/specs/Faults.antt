@@ -14,14 +14,17 @@ use Rattle.sap_vtext.specs.Widths.{constant_fits, shape_width, operand_width, pa
 pub data Manner : Type 0 where
   as_value as_cell as_wire as_register as_memory : Manner
 
+-- A use of a name and the manner in which it is used.
 pub record Use : Type 0 where
   pub manner : Manner
   pub name : Mention
 
+-- The uses in an operand.
 abbrev pub operand_uses : Operand → List Use
 operand_uses (item.named x) = record { manner = as_value; name = x } ∷ []
 operand_uses (item.constant c) = []
 
+-- The uses in a right side.
 abbrev pub right_uses : Right → List Use
 right_uses (item.copy x) = operand_uses x
 right_uses (item.one op x) = operand_uses x
@@ -31,6 +34,7 @@ right_uses (item.concat xs) = flat_map operand_uses xs
 right_uses (item.slice x high low) = record { manner = as_value; name = x } ∷ []
 right_uses (item.cell m index) = record { manner = as_cell; name = m } ∷ operand_uses index
 
+-- The uses in an item, in the order of the text.
 abbrev pub uses : Item → List Use
 uses (item.assign x right) = record { manner = as_wire; name = x } ∷ right_uses right
 uses (item.initial x value) = record { manner = as_register; name = x } ∷ []
@@ -40,6 +44,7 @@ uses (item.always_cell condition x index value) =
     operand_uses condition ++ (record { manner = as_memory; name = x } ∷ (operand_uses index ++ operand_uses value))
 uses _ = []
 
+-- A name of this shape may be used in this manner.
 abbrev pub suits : Manner → Shape → Bool
 suits as_value (memory width depth) = false
 suits as_value _ = true
@@ -52,10 +57,12 @@ suits as_register _ = false
 suits as_memory (memory width depth) = true
 suits as_memory _ = false
 
+-- The constant in an operand.
 abbrev pub operand_constants : Operand → List Constant
 operand_constants (item.named x) = []
 operand_constants (item.constant c) = c ∷ []
 
+-- The constants in a right side.
 abbrev pub right_constants : Right → List Constant
 right_constants (item.copy x) = operand_constants x
 right_constants (item.one op x) = operand_constants x
@@ -65,6 +72,7 @@ right_constants (item.concat xs) = flat_map operand_constants xs
 right_constants (item.slice x high low) = []
 right_constants (item.cell m index) = operand_constants index
 
+-- The constants in an item, in the order of the text.
 abbrev pub constants : Item → List Constant
 constants (item.assign x right) = right_constants right
 constants (item.initial x value) = value ∷ []
@@ -73,6 +81,7 @@ constants (item.always x next) = operand_constants next
 constants (item.always_cell condition x index value) = operand_constants condition ++ (operand_constants index ++ operand_constants value)
 constants _ = []
 
+-- The range that an item declares.
 abbrev pub ranges : Item → List Number
 ranges (item.wire range x) = range ∷ []
 ranges (item.register range x) = range ∷ []
@@ -84,11 +93,13 @@ abbrev pub right_indexes : Right → List (Mention × Operand)
 right_indexes (item.cell m index) = (m, index) ∷ []
 right_indexes _ = []
 
+-- The memories that an item reads or writes, each with its index.
 abbrev pub indexes : Item → List (Mention × Operand)
 indexes (item.assign x right) = right_indexes right
 indexes (item.always_cell condition x index value) = (x, index) ∷ []
 indexes _ = []
 
+-- The place of an operand.
 abbrev pub operand_place : Operand → ℕ
 operand_place (item.named x) = x.place
 operand_place (item.constant c) = c.place

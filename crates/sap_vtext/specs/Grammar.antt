@@ -9,17 +9,21 @@ use Rattle.sap_vtext.specs.Items as item
 use Rattle.sap_vtext.specs.Tokens.{Word, Sign, Token, IsToken}
 use Rattle.sap_vtext.specs.Tokens as t
 
+-- The tokens begin with a keyword.
 pub record IsWord (ts : List Token) (word : Word) (r : List Token) : Type 0 where
   pub place : ℕ
   pub is : IsToken ts place (t.word word) r
 
+-- The tokens begin with a sign.
 pub record IsSign (ts : List Token) (sign : Sign) (r : List Token) : Type 0 where
   pub place : ℕ
   pub is : IsToken ts place (t.sign sign) r
 
+-- The tokens begin with a name.
 abbrev pub IsName : List Token → Mention → List Token → Type 0
 IsName ts n r = IsToken ts n.place (t.name n.name) r
 
+-- The tokens begin with a number.
 pub record IsNumber (ts : List Token) (n : Number) (r : List Token) : Type 0 where
   pub digits : ℕ
   pub is : IsToken ts n.place (t.number n.value digits) r
@@ -29,9 +33,11 @@ pub record IsDigit (ts : List Token) (digit : ℕ) (r : List Token) : Type 0 whe
   pub place : ℕ
   pub is : IsToken ts place (t.number digit 1) r
 
+-- The tokens begin with a constant.
 abbrev pub IsConstant : List Token → Constant → List Token → Type 0
 IsConstant ts c r = IsToken ts c.place (t.constant c.width c.value) r
 
+-- The sign of an operator of one operand.
 abbrev pub unary_sign : Op1 → Sign
 unary_sign unary.Not = t.tilde
 unary_sign unary.Neg = t.minus
@@ -39,6 +45,7 @@ unary_sign unary.AllOnes = t.ampersand
 unary_sign unary.AnyOne = t.bar
 unary_sign unary.Odd = t.caret
 
+-- The sign of an operator of two operands.
 abbrev pub binary_sign : Op2 → Sign
 binary_sign binary.Add = t.plus
 binary_sign binary.Sub = t.minus
@@ -53,6 +60,7 @@ binary_sign binary.Le = t.less_or_equal
 binary_sign binary.Shl = t.shift_left
 binary_sign binary.Shr = t.shift_right
 
+-- OPERAND is NAME or CONST.
 pub data IsOperand : List Token → Operand → List Token → Type 0 where
   name : {ts r : List Token} {n : Mention} → IsName ts n r → IsOperand ts (item.named n) r
   constant : {ts r : List Token} {c : Constant} → IsConstant ts c r → IsOperand ts (item.constant c) r
@@ -62,6 +70,7 @@ pub data IsRange : List Token → Number → List Token → Type 0 where
   range : {ts a b c d r : List Token} {n : Number} → IsSign ts t.open_bracket a → IsNumber a n b → IsSign b t.colon c → IsDigit c 0 d
       → IsSign d t.close_bracket r → IsRange ts n r
 
+-- PORT is `input RANGE NAME`, `output reg RANGE NAME` or `output wire RANGE NAME`.
 pub data IsPort : List Token → Port → List Token → Type 0 where
   input : {ts a b r : List Token} {n : Number} {x : Mention} → IsWord ts t.input_word a → IsRange a n b → IsName b x r
       → IsPort ts (record { direction = item.input; range = n; name = x }) r
@@ -81,6 +90,7 @@ pub data AreParts : List Token → List Operand → List Token → Type 0 where
   next_part : {ts a b r : List Token} {o : Operand} {os : List Operand} → IsSign ts t.comma a → IsOperand a o b → AreParts b os r
       → AreParts ts (o ∷ os) r
 
+-- RIGHT is an operand, an operator with its operands, a choice, a concatenation, a slice or a cell.
 pub data IsRight : List Token → Right → List Token → Type 0 where
   copy : {ts r : List Token} {a : Operand} → IsOperand ts a r → IsRight ts (item.copy a) r
   two : {ts m n r : List Token} {x y : Operand} (op : Op2) → IsOperand ts x m → IsSign m (binary_sign op) n → IsOperand n y r
@@ -108,6 +118,7 @@ pub data IsLoop : List Token → ℕ → Number → List Token → Type 0 where
       → IsWord j t.i_word k → IsSign k t.is l → IsWord l t.i_word m → IsSign m t.plus n → IsDigit n 1 o → IsSign o t.close_paren r
       → IsLoop ts place bound r
 
+-- ITEM is a declaration, an assignment, a start or a clocked write.
 pub data IsItem : List Token → Item → List Token → Type 0 where
   wire : {ts a b c r : List Token} {n : Number} {x : Mention} → IsWord ts t.wire_word a → IsRange a n b → IsName b x c → IsSign c t.semicolon r
       → IsItem ts (item.wire n x) r
@@ -132,10 +143,12 @@ pub data IsItem : List Token → Item → List Token → Type 0 where
       → IsSign h t.close_bracket i → IsSign i t.less_or_equal j → IsOperand j value k → IsSign k t.semicolon r
       → IsItem ts (item.always_cell condition x index value) r
 
+-- Items follow one another.
 pub data AreItems : List Token → List Item → List Token → Type 0 where
   no_item : {r : List Token} → AreItems r [] r
   next_item : {ts m r : List Token} {x : Item} {xs : List Item} → IsItem ts x m → AreItems m xs r → AreItems ts (x ∷ xs) r
 
+-- FILE is `module NAME ( input clk`, the ports, `);`, the items and `endmodule`.
 pub data IsFile : List Token → File → List Token → Type 0 where
   file : {ts a b c d e f g h r : List Token} {x : Mention} {ps : List Port} {xs : List Item} → IsWord ts t.module_word a → IsName a x b
       → IsSign b t.open_paren c → IsWord c t.input_word d → IsWord d t.clk_word e → ArePorts e ps f → IsSign f t.close_paren g → IsSign g t.semicolon h

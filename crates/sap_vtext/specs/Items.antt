@@ -19,6 +19,7 @@ pub record Constant : Type 0 where
   pub width : ℕ
   pub value : ℕ
 
+-- An operand: a name or a constant.
 pub data Operand : Type 0 where
   named : Mention → Operand
   constant : Constant → Operand
@@ -33,6 +34,7 @@ pub data Right : Type 0 where
   slice : Mention → ℕ → ℕ → Right
   cell : Mention → Operand → Right
 
+-- The kind of a port: an input, a register or a wire that is shown.
 pub data Direction : Type 0 where
   input output_register output_wire : Direction
 
@@ -56,6 +58,7 @@ pub data Item : Type 0 where
   always : Mention → Operand → Item
   always_cell : Operand → Mention → Operand → Operand → Item
 
+-- A module: its name, its ports and its items.
 pub record File : Type 0 where
   pub module_name : List ℕ
   pub ports : List Port

@@ -8,6 +8,7 @@ pub use Rattle.sap_text.specs.Blanks.{is_blank, is_in_line}
 use Rattle.sap_net.specs.Names.{is_initial, is_inner}
 use Rattle.sap_vtext.specs.Tokens.{Word, module_word, endmodule_word, input_word, output_word, reg_word, wire_word, assign_word, initial_word, always_word, posedge_word, if_word, for_word, integer_word, clk_word, i_word, Sign, open_paren, close_paren, open_brace, close_brace, open_bracket, close_bracket, comma, semicolon, colon, question, at, is, equal, not_equal, less, less_or_equal, shift_left, shift_right, plus, minus, star, ampersand, bar, caret, tilde, Kind, word, sign, name, number, constant, Token}
 
+-- How a keyword is written.
 abbrev pub word_text : Word → List ℕ
 word_text module_word = codes "module"
 word_text endmodule_word = codes "endmodule"
@@ -25,10 +26,12 @@ word_text integer_word = codes "integer"
 word_text clk_word = codes "clk"
 word_text i_word = codes "i"
 
+-- The keywords.
 abbrev pub words : List Word
 words = module_word ∷ endmodule_word ∷ input_word ∷ output_word ∷ reg_word ∷ wire_word ∷ assign_word ∷ initial_word ∷ always_word
     ∷ posedge_word ∷ if_word ∷ for_word ∷ integer_word ∷ clk_word ∷ i_word ∷ []
 
+-- How a sign is written.
 abbrev pub sign_text : Sign → List ℕ
 sign_text open_paren = codes "("
 sign_text close_paren = codes ")"
@@ -68,6 +71,7 @@ pub data Front : Type 0 where
   token : Kind → ℕ → Front
   bad : Front
 
+-- A word that is a keyword is that keyword, another is a name.
 abbrev pub word_or_name : Option Word → List ℕ → Kind
 word_or_name (Some w) bs = word w
 word_or_name None bs = name bs
@@ -76,19 +80,24 @@ word_or_name None bs = name bs
 abbrev pub kind_of_name : List ℕ → Kind
 kind_of_name bs = word_or_name (find (λ w. bytes_eq bs (word_text w)) words) bs
 
+-- A run of name bytes as a token.
 abbrev pub name_front : List ℕ → Front
 name_front run = token (kind_of_name run) (length run)
 
+-- A sign as a token, or no token.
 abbrev pub sign_or_bad : Option Sign → Front
 sign_or_bad (Some s) = token (sign s) (length (sign_text s))
 sign_or_bad None = bad
 
+-- The longest sign with which the bytes begin.
 abbrev pub sign_front : List ℕ → Front
 sign_front bs = sign_or_bad (find (λ s. starts_with nat_eq bs (sign_text s)) signs)
 
+-- The number is below 2^64.
 abbrev pub is_below_2_64 : ℕ → Bool
 is_below_2_64 n = nat_lt n (2 ^ 64)
 
+-- A run of digits as a number, where it is below 2^64.
 abbrev pub number_front : List ℕ → Front
 number_front digits = if is_below_2_64 (digits_value 10 digits) then token (number (digits_value 10 digits) (length digits)) (length digits) else bad
 
@@ -99,6 +108,7 @@ constant_front width digits =
     then token (constant (digits_value 10 width) (digits_value 10 digits)) (length width + 2 + length digits)
     else bad
 
+-- The digits with which the bytes begin.
 abbrev pub digits_of_front : List ℕ → List ℕ
 digits_of_front bs = take_while is_ascii_digit bs
 
@@ -106,9 +116,11 @@ digits_of_front bs = take_while is_ascii_digit bs
 abbrev pub is_constant : List ℕ → List ℕ → Bool
 is_constant digits after = not (slice_index digits 0 == byte "0") && (starts_with nat_eq after (codes "'d") && is_ascii_digit (slice_index after 2))
 
+-- A run of digits and what follows: a constant where `'d` and a digit follow, else a number.
 abbrev pub digits_front : List ℕ → List ℕ → Front
 digits_front digits after = if is_constant digits after then constant_front digits (digits_of_front (drop 2 after)) else number_front digits
 
+-- What the bytes begin with: a blank, a comment, a name, a number, a constant or a sign.
 unfoldable pub front : List ℕ → Front
 front [] = bad
 front (b ∷ bs) =

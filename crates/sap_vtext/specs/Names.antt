@@ -12,24 +12,29 @@ pub data Shape : Type 0 where
   input wire register : ℕ → Shape
   memory : ℕ → ℕ → Shape
 
+-- A declared name and its shape.
 pub record Declaration : Type 0 where
   pub name : Mention
   pub shape : Shape
 
+-- The shape that a port declares.
 abbrev pub port_shape : Direction → ℕ → Shape
 port_shape item.input width = input width
 port_shape item.output_register width = register width
 port_shape item.output_wire width = wire width
 
+-- The declaration of a port.
 abbrev pub port_declaration : Port → Declaration
 port_declaration p = record { name = p.name; shape = port_shape p.direction (p.range.value + 1) }
 
+-- The declaration of an item, if it is one.
 abbrev pub item_declarations : Item → List Declaration
 item_declarations (item.wire range x) = record { name = x; shape = wire (range.value + 1) } ∷ []
 item_declarations (item.register range x) = record { name = x; shape = register (range.value + 1) } ∷ []
 item_declarations (item.memory range x last) = record { name = x; shape = memory (range.value + 1) (last.value + 1) } ∷ []
 item_declarations _ = []
 
+-- The declarations of a module, in the order of its text.
 abbrev pub declarations : List Port → List Item → List Declaration
 declarations ps xs = map port_declaration ps ++ flat_map item_declarations xs
 
@@ -49,6 +54,7 @@ pub record IsItemOf (f : File) (above : Above) (x : Item) : Type 0 where
   pub ports : above.ports ≡ f.ports
   pub items : f.items ≡ above.items ++ x ∷ below
 
+-- The shape of a name that is declared above.
 abbrev pub shape_above : Above → List ℕ → Option Shape
 shape_above above n = shape_in (declarations above.ports above.items) n
 
@@ -58,10 +64,12 @@ shape_above above n = shape_in (declarations above.ports above.items) n
 pub data Setting : Type 0 where
   assign initial always : Setting
 
+-- A name that is set, and how.
 pub record Target : Type 0 where
   pub setting : Setting
   pub name : Mention
 
+-- The name that an item sets.
 abbrev pub target_of : Item → Option Target
 target_of (item.assign x right) = Some (record { setting = assign; name = x })
 target_of (item.initial x value) = Some (record { setting = initial; name = x })
@@ -70,12 +78,14 @@ target_of (item.always x next) = Some (record { setting = always; name = x })
 target_of (item.always_cell condition x index value) = Some (record { setting = always; name = x })
 target_of _ = None
 
+-- The two ways of setting are the same.
 abbrev pub same_setting : Setting → Setting → Bool
 same_setting assign assign = true
 same_setting initial initial = true
 same_setting always always = true
 same_setting _ _ = false
 
+-- The target is this name, set in this way.
 abbrev pub is_target : Setting → List ℕ → Option Target → Bool
 is_target s n None = false
 is_target s n (Some t) = same_setting s t.setting && bytes_eq t.name.name n
@@ -84,10 +94,12 @@ is_target s n (Some t) = same_setting s t.setting && bytes_eq t.name.name n
 abbrev pub is_set : Setting → List ℕ → List Item → Bool
 is_set s n xs = list_any (λ x. is_target s n (target_of x)) xs
 
+-- The item declares the integer.
 abbrev pub is_integer : Item → Bool
 is_integer (item.integer place) = true
 is_integer _ = false
 
+-- One of the items declares the integer.
 abbrev pub has_integer : List Item → Bool
 has_integer xs = list_any is_integer xs
 

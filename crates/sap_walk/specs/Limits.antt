@@ -20,11 +20,13 @@ pub record Past (Counts Limit : Type 0) : Type 0 where
   pub counts : Counts
   pub first : Option (ℕ × Limit)
 
+-- The limit that was broken first: an earlier one, or else the one that this token breaks.
 abbrev pub first_of : {Limit : Type 0} → Option (ℕ × Limit) → ℕ → Option Limit → Option (ℕ × Limit)
 first_of (Some f) n b = Some f
 first_of None n None = None
 first_of None n (Some limit) = Some (n, limit)
 
+-- The value, unless a limit is broken.
 abbrev pub unless_broken : {A Limit : Type 0} → Option Limit → A → Result A Limit
 unless_broken None a = Ok a
 unless_broken (Some limit) a = Err limit

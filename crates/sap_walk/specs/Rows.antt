@@ -16,6 +16,7 @@ optional cannot_stand = empty_here
 
 -- the first of the two that the token begins
 infixr 12 ◌or◌
+-- The first of two entries unless the token can't appear there, else the second.
 abbrev pub ◌or◌ : {S R : Type 0} → Next S R → Next S R → Next S R
 (begins role σ) or n = begins role σ
 empty_here or n = empty_here

@@ -37,40 +37,49 @@ pub data Move (Past Symbol Limit : Type 0) : Type 0 where
   breaks_limit : Limit → Move Past Symbol Limit
 
 infixl 10 ◌>>=◌
+-- The next step, unless the walk came to a halt.
 abbrev pub ◌>>=◌ : {S E : Type 0} → Result S E → (S → Result S E) → Result S E
 (Ok p) >>= f = f p
 (Err e) >>= f = Err e
 
+-- The move of a token that was taken, or of a limit that it broke.
 abbrev pub entered : {Past Symbol Limit : Type 0} → Result Past Limit → List Symbol → Move Past Symbol Limit
 entered (Ok past) σ = moved_past past σ
 entered (Err limit) σ = breaks_limit limit
 
+-- One of three answers, by what a token does with a symbol.
 abbrev pub chosen : {Symbol Role A : Type 0} → Next Symbol Role → (Role → List Symbol → A) → A → A → A
 chosen (begins role σ) take skip stop = take role σ
 chosen empty_here take skip stop = skip
 chosen cannot_stand take skip stop = stop
 
+-- One of four answers, by what a move came to.
 abbrev pub moved : {Past Symbol Limit A : Type 0} → Move Past Symbol Limit → (Past → List Symbol → A) → A → A → (Limit → A) → A
 moved (moved_past past σ) taken unneeded refused breaks = taken past σ
 moved not_needed taken unneeded refused breaks = unneeded
 moved rejected taken unneeded refused breaks = refused
 moved (breaks_limit limit) taken unneeded refused breaks = breaks limit
 
+-- The first value if the symbol may stand for no token, else the second.
 abbrev pub if_empty : {A : Type 0} → Bool → A → A → A
 if_empty true a b = a
 if_empty false a b = b
 
 module _ (W : Table) where
+  -- Where a walk stands: what is past and the next token.
   abbrev pub Point : Type 0
   Point = Stage W.Past W.Token
 
+  -- A walk ends at a point, or stops at one.
   abbrev pub Outcome : Type 0
   Outcome = Result Point (Halt Point W.Limit)
 
+  -- The walk's answer to a token: the first symbol whose row takes it.
   unfoldable pub settle : W.Token → W.Past → List W.Symbol → Move W.Past W.Symbol W.Limit
   settle t past [] = not_needed
   settle t past (s ∷ γ) = chosen (W.next s t) (λ role σ. entered (W.enter role t past) (σ ++ γ)) (settle t past γ) rejected
 
+  -- The walk's answer to the end of the text: each symbol that is left may be empty.
   unfoldable pub at_end : W.Past → List W.Symbol → Outcome
   at_end past [] = Ok (record { past = past; left = [] })
   at_end past (s ∷ γ) = if_empty (W.may_be_empty s) (at_end past γ) (Err (at_token (record { past = past; left = [] })))

@@ -9,6 +9,7 @@ use Rattle.sap_wave.specs.Lines.{text_of}
 use Rattle.sap_wave.specs.Dumps.{block_of, head, last_among}
 use Rattle.sap_wave.specs.Runs.{initial_numbers, numbers_after, run_dump, variables_of}
 
+-- A dump that is being written: its variables, the first numbers and the last ones.
 pub record Dumping : Type 0 where
   pub variables : List Variable
   -- their numbers before the first cycle

@@ -50,9 +50,11 @@ abbrev pub last_among : (before : List ℕ) → List (List ℕ) → List ℕ
 last_among before [] = before
 last_among before (after ∷ rest) = last_among after rest
 
+-- The lines of a dump.
 abbrev pub dump : List Variable → (first : List ℕ) → (rest : List (List ℕ)) → List Form
 dump xs first rest = head xs first ++ blocks_from 1 xs first rest
 
+-- The text of a dump.
 abbrev pub dump_text : List Variable → (first : List ℕ) → (rest : List (List ℕ)) → List ℕ
 dump_text xs first rest = text_of (dump xs first rest)
 

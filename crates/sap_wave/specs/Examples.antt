@@ -8,21 +8,27 @@ use Rattle.sap_wave.specs.Waves.{Wave}
 use Rattle.sap_wave.specs.Faults.{IsFault}
 use Rattle.sap_wave.specs.Dumps.{IsReading, dump_text}
 
+-- A variable of a width and a name.
 abbrev pub of_width : ℕ → List ℕ → Variable
 of_width width name = record { name = name; width = width }
 
+-- Two values with their tags.
 abbrev pub variables : List Variable
 variables = of_width 8 (codes "v_x") ∷ (of_width 1 (codes "t_x") ∷ (of_width 8 (codes "v_y") ∷ (of_width 1 (codes "t_y") ∷ [])))
 
+-- The numbers of the first block.
 abbrev pub first : List ℕ
 first = 1 ∷ (0 ∷ (2 ∷ (0 ∷ [])))
 
+-- The numbers of the second block.
 abbrev pub second : List ℕ
 second = 2 ∷ (0 ∷ (1 ∷ (0 ∷ [])))
 
+-- The wave of the two blocks.
 abbrev pub wave : Wave
 wave = record { variables = variables; blocks = first ∷ (second ∷ []) }
 
+-- Lines, one behind the other.
 abbrev pub lines : List (List ℕ) → List ℕ
 lines [] = []
 lines (text ∷ texts) = line text ++ lines texts
@@ -50,9 +56,11 @@ text last_block =
     ∷ [])))))))))))))))
     )
 
+-- The text that is written for the two blocks.
 abbrev pub Written : Type 0
 Written = dump_text variables first (second ∷ []) ≡ text (codes "#1")
 
+-- The text is read as the two blocks.
 abbrev pub Read : Type 0
 Read = IsReading (text (codes "#1")) wave
 
@@ -105,5 +113,6 @@ abbrev pub Identifiers : Type 0
 Identifiers =
     (identifier 0 ≡ codes "!") × (identifier 93 ≡ codes "~") × (identifier 94 ≡ codes "\"!") × (identifier 8835 ≡ codes "~~") × (identifier 8836 ≡ codes "\"!!")
 
+-- How numbers are written in binary digits.
 abbrev pub Bits : Type 0
 Bits = (bits 1 0 ≡ codes "0") × (bits 8 2 ≡ codes "00000010")

@@ -13,6 +13,7 @@ pub data Form : Type 0 where
   block : (number : List ℕ) → Form
   change : (digits id : List ℕ) → Form
 
+-- How a line of a dump is written.
 abbrev pub form_text : Form → List ℕ
 form_text timescale = codes "$timescale 1ns $end"
 form_text scope = codes "$scope module top $end"
@@ -34,6 +35,7 @@ is_id text = are_digits 33 94 text
 abbrev pub is_piece : List ℕ → Bool
 is_piece text = nat_le 1 (length text) && list_all (λ b. not (b == byte " ")) text
 
+-- The line's numbers, identifiers and names are well formed.
 abbrev pub is_formed : Form → Bool
 is_formed (variable width id name) = is_number width && (is_id id && is_piece name)
 is_formed (block number) = is_number number

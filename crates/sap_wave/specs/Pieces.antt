@@ -2,6 +2,7 @@
 use Rattle.std.specs.Prelude.{◌≡◌, ℕ, List, ◌∷◌, ◌++◌, Bool, true, not, ◌==◌}
 use Rattle.std.specs.List.{list_all}
 
+-- The byte is another than the mark.
 abbrev pub is_not : (mark : ℕ) → ℕ → Bool
 is_not mark b = not (b == mark)
 

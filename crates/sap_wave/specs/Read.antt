@@ -26,6 +26,7 @@ abbrev pub IsFaultAt : (Stand : WaveCode → Type 0) → (line : ℕ) → WaveFa
 IsFaultAt Stand line (Rule code there) = (there ≡ line) × IsLeast Stand code
 IsFaultAt Stand line Memory = Unit {0}
 
+-- The fault at a line for which the reader stops.
 abbrev pub fault_at : (line : ℕ) → Stop → WaveFault
 fault_at line (stop.Code code) = Rule code line
 fault_at line stop.Memory = Memory

@@ -11,9 +11,11 @@ use Rattle.sap_text.specs.Lines.{Line, lines_of}
 use Rattle.sap_wave.specs.Waves.{Wave, names_of}
 use Rattle.sap_wave.specs.Lines.{Form, timescale, scope, upscope, end_definitions, variable, block, change, IsLine}
 
+-- A variable where none is given.
 abbrev pub nothing : Variable
 nothing = record { name = []; width = 0 }
 
+-- The width of a variable, by its number.
 abbrev pub width_at : List Variable → ℕ → ℕ
 width_at xs k = (get_or xs k nothing).width
 
@@ -32,6 +34,7 @@ is_first o = length o.before == 0
 abbrev pub is_full : List (Option ℕ) → Bool
 is_full now = list_all is_some now
 
+-- The numbers of a block at its end.
 abbrev pub numbers_in : List (Option ℕ) → List ℕ
 numbers_in now = map (λ o. unwrap_or o 0) now
 
@@ -69,6 +72,7 @@ pub record IsKnown (xs : List Variable) (id : List ℕ) : Type 0 where
   pub within : number_spelled id < length xs
   pub spells : id ≡ identifier (number_spelled id)
 
+-- The number that a variable has in an open block.
 abbrev pub number_now : OpenBlock → (id : List ℕ) → Option ℕ
 number_now o id = get_or o.now (number_spelled id) None
 
@@ -96,6 +100,7 @@ Takes (in_block xs o) (block number) = IsNextBlock o number
 Takes (in_block xs o) (change digits id) = IsChange xs o digits id
 Takes _ _ = ⊥
 
+-- The first block, before any change.
 abbrev pub first_block : List Variable → OpenBlock
 first_block xs = record { before = []; now = map (λ x. None) xs; next = 0 }
 
@@ -103,6 +108,7 @@ first_block xs = record { before = []; now = map (λ x. None) xs; next = 0 }
 abbrev pub next_block : OpenBlock → OpenBlock
 next_block o = record { before = blocks_of o; now = o.now; next = 0 }
 
+-- The open block after a change.
 abbrev pub changed : OpenBlock → (digits id : List ℕ) → OpenBlock
 changed o digits id =
     record { before = o.before; now = set o.now (number_spelled id) (Some (bits_number digits)); next = number_spelled id + 1 }

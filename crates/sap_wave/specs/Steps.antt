@@ -16,9 +16,11 @@ use Rattle.sap_wave.specs.Numbers.{now_of}
 use Rattle.sap_wave.specs.Reading.{OpenBlock, State, before_timescale, before_scope, declaring, before_end, before_blocks, in_block, width_at, Takes, after}
 use Rattle.sap_wave.specs.Faults.{IsLeast, IsWrong, Stands}
 
+-- The open block that a stored one stands for.
 abbrev pub open_of : Block → OpenBlock
 open_of b = record { before = blocks_in b.before; now = now_of b.numbers; next = b.next }
 
+-- Where the reader is, as the definitions have it.
 abbrev pub state_of : Held → State
 state_of held.BeforeTimescale = before_timescale
 state_of held.BeforeScope = before_scope

@@ -11,6 +11,7 @@ pub record Wave : Type 0 where
   pub variables : List Variable
   pub blocks : List (List ℕ)
 
+-- The names of variables.
 abbrev pub names_of : List Variable → List Name
 names_of xs = map (λ x. x.name) xs
 

@@ -18,6 +18,7 @@ untagged =
       blocks = (1 ∷ 0 ∷ 2 ∷ []) ∷ (2 ∷ 0 ∷ 1 ∷ []) ∷ [];
     }
 
+-- A wave without tags gives rows that show nothing.
 abbrev pub NothingShown : Type 0
 NothingShown = rows_of_wave low_high untagged ≡ line (codes "cycle 1:")
 

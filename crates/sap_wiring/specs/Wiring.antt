@@ -14,6 +14,7 @@ use Rattle.sap_link.specs.Systems.{Endpoint, Wire}
 use Rattle.sap_wiring.specs.declared.surroundings.PartNames.{PartNames}
 use Rattle.sap_wiring.specs.declared.surroundings.Surroundings as code
 
+-- A part's name and entities, as the definitions have them.
 abbrev pub named_part : PartNames → NamedPart
 named_part p = record { name = p.name.now; entities = p.names.now }
 
@@ -21,6 +22,7 @@ named_part p = record { name = p.name.now; entities = p.names.now }
 abbrev pub seen : code.Surroundings → Surroundings
 seen around = record { parts = map named_part around.parts.now; levels = around.lattice.now.names }
 
+-- The names of the parts.
 abbrev pub names_in : Surroundings → List (List ℕ)
 names_in u = map (λ (p : NamedPart). p.name) u.parts
 

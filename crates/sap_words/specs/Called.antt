@@ -3,6 +3,7 @@ use Rattle.sap_words.specs.Words.{Words, compile, link, run, trace, fmt, sim, ta
 use Rattle.sap_words.specs.declared.command.Command.{Command}
 use Rattle.sap_words.specs.declared.command.Command.TheVariants.{Compile, Link, Run, Trace, Fmt, Sim, Taint, Wave, Unwave, Report, Twin, Gen, Machine, Asm, Cpu}
 
+-- The command with its operands, as the definitions have it.
 abbrev pub words_of : Command → Words
 words_of (Compile lattice design out) = compile lattice.now design.now out.now
 words_of (Link lattice system out) = link lattice.now system.now out.now

@@ -49,9 +49,11 @@ pub record Row : Type 0 where
   pub operands : List (List ℕ)
   pub make : Maker operands
 
+-- A command's row: its name, its operands and what they make.
 abbrev pub row : (name : List ℕ) → (operands : List (List ℕ)) → Maker operands → Row
 row name operands make = record { name = name; operands = operands; make = make }
 
+-- The commands, each with its operands.
 abbrev pub commands : List Row
 commands = row (codes "compile") (codes "LATTICE" ∷ codes "DESIGN" ∷ codes "OUT" ∷ []) compile
     ∷ row (codes "link") (codes "LATTICE" ∷ codes "SYSTEM" ∷ codes "OUT" ∷ []) link
@@ -81,13 +83,16 @@ is_operand (c ∷ cs) = not (eqb c (byte "-"))
 abbrev pub are_few_digits : List ℕ → Bool
 are_few_digits text = nat_le 1 (length text) && (nat_le (length text) 4 && list_all is_ascii_digit text)
 
+-- The number is 1 to 1000.
 abbrev pub is_run_number : ℕ → Bool
 is_run_number n = nat_le 1 n && nat_le n 1000
 
+-- The number that a word spells.
 abbrev pub number_of : List ℕ → Option ℕ
 number_of text =
     if are_few_digits text then (if is_run_number (digits_value 10 text) then Some (digits_value 10 text) else None) else None
 
+-- What a word gives for an operand: the word, or its number.
 abbrev pub value_of : (is_number : Bool) → (word : List ℕ) → Option (Value is_number)
 value_of false word = Some word
 value_of true word = number_of word
@@ -99,6 +104,7 @@ made [] make (word ∷ words) = None
 made (operand ∷ operands) make [] = None
 made (operand ∷ operands) make (word ∷ words) = option_and_then (λ v. made operands (make v) words) (value_of (is_number operand) word)
 
+-- The row of a command, by its name.
 abbrev pub row_named : (name : List ℕ) → Option Row
 row_named name = find (λ r. bytes_eq name r.name) commands
 

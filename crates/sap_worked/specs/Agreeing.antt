@@ -52,6 +52,7 @@ InputsAside = StatesAgree ground left calm (slot_has (own input_a) 5 left calm)
 abbrev pub one_state : Store
 one_state = register_has register_x 5 right (register_has register_z 7 right (cell_has memory_m 0 5 high (child_is state_p 1 (child_is state_q 1 calm))))
 
+-- The state with a register, cells, children and levels of a high context changed.
 abbrev pub other_state : Store
 other_state = register_has register_x 6 high (cell_has memory_m 1 6 right (cell_has memory_h 0 6 right (child_is state_p 2 (child_is state_c 1 (level_is state_g left calm)))))
 

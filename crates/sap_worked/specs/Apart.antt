@@ -4,6 +4,7 @@ use Rattle.sap_meaning.specs.Agree.{StatesAgree}
 use Rattle.sap_worked.specs.Rows.{low, left, right, high}
 use Rattle.sap_worked.specs.Ground.{register_x, register_y, memory_m, memory_k, state_p, state_c, state_f, state_d, state_q, the_root, ground, ground_world, calm, slot_has, register_has, cell_has, level_is, child_is}
 
+-- The two stores don't agree at or below `left`.
 abbrev pub Apart : Store → Store → Type 0
 Apart s t = StatesAgree ground left s t → ⊥
 
@@ -23,6 +24,7 @@ RegisterSeenInOne = Apart (register_has register_x 5 left calm) (register_has re
 abbrev pub CellNumber : Type 0
 CellNumber = Apart calm (slot_has (start memory_k 1) 5 left calm)
 
+-- Stores with a different next number of a low cell don't agree.
 abbrev pub NextCellNumber : Type 0
 NextCellNumber = Apart calm (slot_has (next memory_k 1) 5 left calm)
 
@@ -30,6 +32,7 @@ NextCellNumber = Apart calm (slot_has (next memory_k 1) 5 left calm)
 abbrev pub MemoryNumber : Type 0
 MemoryNumber = Apart calm (put_number (start memory_m 1) 5 calm)
 
+-- Stores with a different next number of a dynamic memory's cell don't agree.
 abbrev pub NextMemoryNumber : Type 0
 NextMemoryNumber = Apart calm (put_number (next memory_m 1) 5 calm)
 
@@ -37,6 +40,7 @@ NextMemoryNumber = Apart calm (put_number (next memory_m 1) 5 calm)
 abbrev pub MemoryLevel : Type 0
 MemoryLevel = Apart calm (put_level ground_world (start_whole memory_m) left calm)
 
+-- Stores with a different next level of a dynamic memory don't agree.
 abbrev pub NextMemoryLevel : Type 0
 NextMemoryLevel = Apart calm (put_level ground_world (next_whole memory_m) left calm)
 
@@ -52,6 +56,7 @@ EnforcedRegisterLevel = Apart (level_is register_y right calm) (level_is registe
 abbrev pub EnforcedCellLevel : Type 0
 EnforcedCellLevel = Apart (cell_has memory_k 0 0 right calm) (slot_has (start memory_k 0) 0 high (cell_has memory_k 0 0 right calm))
 
+-- Stores with a different next level of an enforced memory's cell don't agree.
 abbrev pub NextEnforcedCellLevel : Type 0
 NextEnforcedCellLevel = Apart (cell_has memory_k 0 0 right calm) (slot_has (next memory_k 0) 0 high (cell_has memory_k 0 0 right calm))
 
@@ -59,6 +64,7 @@ NextEnforcedCellLevel = Apart (cell_has memory_k 0 0 right calm) (slot_has (next
 abbrev pub InactiveStateLevel : Type 0
 InactiveStateLevel = Apart (level_is state_q right calm) (level_is state_q high calm)
 
+-- Stores with a different level of a state that is active don't agree.
 abbrev pub ActiveStateLevel : Type 0
 ActiveStateLevel = Apart (child_is state_p 1 calm) (level_is state_d high (child_is state_p 1 calm))
 
@@ -66,6 +72,7 @@ ActiveStateLevel = Apart (child_is state_p 1 calm) (level_is state_d high (child
 abbrev pub OtherChild : Type 0
 OtherChild = Apart calm (child_is the_root 1 calm)
 
+-- Stores with a different current child below don't agree.
 abbrev pub OtherChildBelow : Type 0
 OtherChildBelow = Apart calm (child_is state_c 1 calm)
 
@@ -73,6 +80,7 @@ OtherChildBelow = Apart calm (child_is state_c 1 calm)
 abbrev pub ChildLevel : Type 0
 ChildLevel = Apart calm (level_is state_c left calm)
 
+-- Stores with a different level of a child below don't agree.
 abbrev pub ChildLevelBelow : Type 0
 ChildLevelBelow = Apart calm (level_is state_f left calm)
 
@@ -80,5 +88,6 @@ ChildLevelBelow = Apart calm (level_is state_f left calm)
 abbrev pub ChildSeenInOne : Type 0
 ChildSeenInOne = Apart calm (level_is state_c right calm)
 
+-- Stores whose current children differ don't agree where one of the two is seen.
 abbrev pub OtherChildSeenInOne : Type 0
 OtherChildSeenInOne = Apart calm (child_is state_p 1 calm)

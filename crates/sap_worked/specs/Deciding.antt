@@ -34,6 +34,7 @@ abbrev pub in_guard : Program
 in_guard = program_of four_levels (an_input 8 ∷ held_register 8 left 1 ∷ a_register 8 ∷ a_register 8 ∷ held_state 0 4 low ∷ []) (0 ∷ 0 ∷ 0 ∷ 0 ∷ 0 ∷ 1 ∷ [])
     (loop 4 2 (λ b. command_then (try_then (assign 1 1 (read 0)) [] (command_then (lone (assign 0 2 (read 1))) end_block) (command_then (put 0 3 6) end_block)) b))
 
+-- What is looked at: three registers.
 abbrev pub three_registers : Look
 three_registers = record { values = own 1 ∷ own 2 ∷ own 3 ∷ []; states = []; parents = [] }
 
@@ -53,6 +54,7 @@ abbrev pub sites_in_blocks : Program
 sites_in_blocks = program_of four_levels (an_input 8 ∷ held_register 8 low 1 ∷ held_register 8 low 2 ∷ a_register 8 ∷ held_state 0 4 low ∷ []) (0 ∷ 0 ∷ 0 ∷ 0 ∷ 0 ∷ 1 ∷ [])
     (loop 4 4 (λ b. command_then (try_then (assign 1 1 (read 0)) [] (command_then (lone (assign 2 2 (read 3))) end_block) (command_then (lone (assign 3 2 (read 0))) end_block)) b))
 
+-- What is looked at: two registers.
 abbrev pub two_registers : Look
 two_registers = record { values = own 1 ∷ own 2 ∷ []; states = []; parents = [] }
 
@@ -66,6 +68,7 @@ abbrev pub decoder : Program
 decoder = program_of four_levels (an_input 2 ∷ a_register 8 ∷ held_state 0 2 low ∷ []) (0 ∷ 0 ∷ 0 ∷ 1 ∷ [])
     (loop 2 1 (λ b. command_then (case_of [] (read 0) (and_arm (0 ∷ 2 ∷ []) (command_then (put 0 1 7) end_block) (last_arm (command_then (put 0 1 9) end_block)))) b))
 
+-- What is looked at: register x.
 abbrev pub at_x : Look
 at_x = record { values = own 1 ∷ []; states = []; parents = [] }
 

@@ -6,6 +6,7 @@ use Rattle.sap_meaning.specs.Fine.{FineProgram, ExactProgram}
 use Rattle.sap_meaning.specs.Sites.{RisesFrom, program_sites}
 use Rattle.sap_resolved.specs.Fill.{program_of}
 
+-- The program of the design that decides by an outcome.
 abbrev pub decided_program : Program
 decided_program = program_of low_high decided
 

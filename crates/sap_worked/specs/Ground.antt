@@ -18,54 +18,71 @@ use Rattle.sap_worked.specs.Rows.{left, right, high, low, register_under, memory
 abbrev pub input_a : ℕ
 input_a = 0
 
+-- The dynamic register.
 abbrev pub register_x : ℕ
 register_x = 1
 
+-- The register enforced at `left`.
 abbrev pub register_y : ℕ
 register_y = 2
 
+-- The register enforced at `high` under `right`.
 abbrev pub register_z : ℕ
 register_z = 3
 
+-- The dynamic memory.
 abbrev pub memory_m : ℕ
 memory_m = 4
 
+-- The memory enforced at `left`.
 abbrev pub memory_k : ℕ
 memory_k = 5
 
+-- The memory enforced at `high` under `right`.
 abbrev pub memory_h : ℕ
 memory_h = 6
 
+-- The first state of the root, enforced at the bottom, with three children.
 abbrev pub state_p : ℕ
 state_p = 7
 
+-- The first child of p, with two children.
 abbrev pub state_c : ℕ
 state_c = 8
 
+-- The first child of c.
 abbrev pub state_f : ℕ
 state_f = 9
 
+-- The second child of c.
 abbrev pub state_g : ℕ
 state_g = 10
 
+-- The second child of p, enforced at `right`.
 abbrev pub state_d : ℕ
 state_d = 11
 
+-- The third child of p, enforced at `high`.
 abbrev pub state_e : ℕ
 state_e = 12
 
+-- The second state of the root, enforced at `left`, with two children.
 abbrev pub state_q : ℕ
 state_q = 13
 
+-- The first child of q.
 abbrev pub state_i : ℕ
 state_i = 14
 
+-- The second child of q, enforced at `high` under `right`.
 abbrev pub state_j : ℕ
 state_j = 15
 
+-- The root.
 abbrev pub the_root : ℕ
 the_root = 16
 
+-- The entities: an input, registers, memories and states of each kind, over four levels.
 abbrev pub ground_world : World
 ground_world = record {
   order = four_levels;
@@ -80,6 +97,7 @@ ground_world = record {
 abbrev pub falls : (site : ℕ) → Block
 falls site = command_then (lone (fall_to_child site [])) end_block
 
+-- The program over these entities: its states fall and go on.
 abbrev pub ground : Program
 ground = record {
   world = ground_world;
@@ -100,6 +118,7 @@ calm = first ground_world
 abbrev pub slot_has : Slot → (number level : ℕ) → Store → Store
 slot_has a n t s = put_level ground_world a t (put_number a n s)
 
+-- The store with a register's number and level put.
 abbrev pub register_has : (register number level : ℕ) → Store → Store
 register_has x n t s = slot_has (own x) n t s
 
@@ -107,6 +126,7 @@ register_has x n t s = slot_has (own x) n t s
 abbrev pub cell_has : (memory index number level : ℕ) → Store → Store
 cell_has m i n t s = slot_has (start m i) n t (slot_has (next m i) n t s)
 
+-- The store with an entity's level put.
 abbrev pub level_is : (entity level : ℕ) → Store → Store
 level_is x t s = put_level ground_world (own x) t s
 

@@ -17,6 +17,7 @@ fall_handled = program_of four_levels (an_input 1 ∷ a_register 8 ∷ held_regi
     (command_then (try (fall_to_child 1 []) [] (command_then (put 0 1 5) (command_then (put 2 2 6) (goes 3 3)))) end_block) (goes 4 3)) end_block)
     (and_node (state_node 4 (goes 5 4) no_node) no_node)) no_node)
 
+-- What is looked at: registers x and y.
 abbrev pub at_x_and_y : Look
 at_x_and_y = record { values = own 1 ∷ own 2 ∷ []; states = []; parents = [] }
 
@@ -77,6 +78,7 @@ chained = program_of four_levels
     (loop 5 5 (λ b. command_then (try (assign 1 1 (read 0)) []
     (command_then (try (assign 2 2 (constant 8 8)) [] (command_then (put 3 3 9) end_block)) end_block)) (command_then (lone (assign 4 4 (read 0))) b)))
 
+-- What is looked at: four registers.
 abbrev pub four_registers : Look
 four_registers = record { values = own 1 ∷ own 2 ∷ own 3 ∷ own 4 ∷ []; states = []; parents = [] }
 

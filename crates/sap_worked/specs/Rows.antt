@@ -11,12 +11,15 @@ use Rattle.sap_meaning.specs.State.{labelled_run}
 abbrev pub low : ℕ
 low = 0
 
+-- A level above the bottom.
 abbrev pub left : ℕ
 left = 1
 
+-- The level beside `left`.
 abbrev pub right : ℕ
 right = 2
 
+-- The top of the four levels.
 abbrev pub high : ℕ
 high = 3
 
@@ -24,9 +27,11 @@ high = 3
 abbrev pub register_under : (width level authority initial : ℕ) → Entity
 register_under u t a n = record { kind = register; width = u; dynamic = false; declared = t; authority = a; initial = n }
 
+-- An enforced memory under an authority.
 abbrev pub memory_under : (width depth level authority : ℕ) → Entity
 memory_under u d t a = record { kind = memory d; width = u; dynamic = false; declared = t; authority = a; initial = 0 }
 
+-- An enforced state under an authority.
 abbrev pub state_under : (place last level authority : ℕ) → Entity
 state_under n m t a = record { kind = state n m; width = 0; dynamic = false; declared = t; authority = a; initial = 0 }
 
@@ -45,18 +50,22 @@ pub record Look : Type 0 where
   pub states : List ℕ
   pub parents : List ℕ
 
+-- What is seen after a cycle: numbers with levels, levels of states, current children and refusals.
 pub record Row : Type 0 where
   pub values : List Tagged
   pub levels : List ℕ
   pub places : List ℕ
   pub refused : List Refusal
 
+-- A row of these four lists.
 abbrev pub row : List Tagged → (levels places : List ℕ) → List Refusal → Row
 row v t n r = record { values = v; levels = t; places = n; refused = r }
 
+-- The number and level of a slot.
 abbrev pub tagged : World → Store → Slot → Tagged
 tagged w s z = record { number = number z s; level = level w z s }
 
+-- What is looked at after a cycle.
 abbrev pub seen_after : World → Look → After → Row
 seen_after w look a = record {
   values = map (tagged w a.store) look.values;

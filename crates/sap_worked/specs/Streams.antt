@@ -6,6 +6,7 @@ use Rattle.sap_meaning.specs.Agree.{InputsAgree, StreamsAgree, RefusalsAgree}
 use Rattle.sap_meaning.specs.Examples.{four_levels, at_level, refused_at}
 use Rattle.sap_worked.specs.Rows.{low, left, right, high}
 
+-- The two cycles' inputs don't agree at or below `left`.
 abbrev pub InputsApart : List Tagged → List Tagged → Type 0
 InputsApart a b = InputsAgree four_levels left a b → ⊥
 
@@ -29,6 +30,7 @@ InputSeenInOne = InputsApart (at_level left 5 ∷ []) (at_level right 5 ∷ [])
 abbrev pub InputTooMany : Type 0
 InputTooMany = InputsApart (at_level low 5 ∷ []) (at_level low 5 ∷ at_level high 6 ∷ [])
 
+-- The two streams don't agree at or below `left`.
 abbrev pub StreamsApart : List (List Tagged) → List (List Tagged) → Type 0
 StreamsApart a b = StreamsAgree four_levels left a b → ⊥
 
@@ -53,6 +55,7 @@ pub record StreamsAgreeBelow : Type 0 where
   pub at_left : StreamsAgree four_levels left ((at_level right 5 ∷ []) ∷ []) ((at_level right 6 ∷ []) ∷ [])
   pub not_at_right : StreamsAgree four_levels right ((at_level right 5 ∷ []) ∷ []) ((at_level right 6 ∷ []) ∷ []) → ⊥
 
+-- The two lists of refusals don't agree at or below `left`.
 abbrev pub RefusalsApart : List Refusal → List Refusal → Type 0
 RefusalsApart a b = RefusalsAgree four_levels left a b → ⊥
 

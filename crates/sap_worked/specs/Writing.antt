@@ -20,9 +20,11 @@ written_enforced = written (held_memory 8 2 left) 1 2
 abbrev pub written_dynamic : Program
 written_dynamic = written (a_memory 8 2) 0 1
 
+-- What is looked at: both cells of memory k.
 abbrev pub cells_of_k : Look
 cells_of_k = record { values = start 2 0 ∷ start 2 1 ∷ []; states = []; parents = [] }
 
+-- The inputs of the example: an index and a number.
 abbrev pub writes : (i a : Tagged) → List Tagged
 writes i a = i ∷ a ∷ []
 

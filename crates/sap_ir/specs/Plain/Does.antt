@@ -55,5 +55,6 @@ abbrev pub run_after : Nested → (before : Option Valuation) → List (List ℕ
 run_after p before [] = []
 run_after p before (xs ∷ xss) = let v = cycle p before xs in v ∷ run_after p (Some v) xss
 
+-- The cycles of a run of nested states from power-up.
 abbrev pub plain_run : Nested → List (List ℕ) → List Valuation
 plain_run p xss = run_after p None xss

@@ -9,6 +9,7 @@ use Rattle.sap_ir.specs.Source.{set}
 use Rattle.sap_ir.specs.Plain.Nested.{Body, stop, act, cases, goto, fall, Forest, none, state, Nested}
 use Rattle.sap_ir.specs.Plain.Does.{plain_run}
 
+-- The registers of the counting program.
 abbrev pub counting_registers : List Var
 counting_registers =
     record { name = codes "x"; width = 8; start = 0 }
@@ -17,17 +18,21 @@ counting_registers =
     ∷ record { name = codes "s_A"; width = 1; start = 0 }
     ∷ []
 
+-- State A counts x up and goes to B when x is 2.
 abbrev pub body_of_A : Body
 body_of_A =
     cases (two Eq (read (codes "x")) (constant 8 2)) (goto (codes "B") stop) (act (set (codes "x") (two Add (read (codes "x")) (constant 8 1))) (fall stop)) stop
 
+-- The two children of A; the second copies x to y.
 abbrev pub children_of_A : Forest
 children_of_A =
     state (codes "first") (goto (codes "second") stop) none (state (codes "second") (act (set (codes "y") (read (codes "x"))) stop) none none)
 
+-- State B sets x to 0 and goes back to A.
 abbrev pub body_of_B : Body
 body_of_B = act (set (codes "x") (constant 8 0)) (goto (codes "A") stop)
 
+-- A program of two states, one with two children.
 abbrev pub counting : Nested
 counting =
     record {
@@ -43,9 +48,11 @@ counting =
 abbrev pub counted : List (List ℕ)
 counted = (1 ∷ 0 ∷ 0 ∷ 1 ∷ []) ∷ (2 ∷ 2 ∷ 0 ∷ 1 ∷ []) ∷ (2 ∷ 2 ∷ 1 ∷ 1 ∷ []) ∷ (0 ∷ 2 ∷ 0 ∷ 0 ∷ []) ∷ []
 
+-- What its registers show in four cycles.
 abbrev pub counting_shows : List (List ℕ)
 counting_shows =
     map (λ (v : Valuation). map v.value (codes "x" ∷ codes "y" ∷ codes "s_0" ∷ codes "s_A" ∷ [])) (plain_run counting ([] ∷ [] ∷ [] ∷ [] ∷ []))
 
+-- The registers show the numbers that are worked out by hand.
 abbrev pub Counts : Type 0
 Counts = counting_shows ≡ counted

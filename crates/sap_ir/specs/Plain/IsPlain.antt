@@ -32,6 +32,7 @@ BodyFine s fixed group nested (cases t then_part else_part rest) =
 BodyFine s fixed group nested (goto x rest) = (is_among x group ≡ true) × BodyFine s fixed group nested rest
 BodyFine s fixed group nested (fall rest) = (nested ≡ true) × BodyFine s fixed group nested rest
 
+-- The body is at its end.
 abbrev pub is_stop : Body → Bool
 is_stop stop = true
 is_stop _ = false
@@ -70,6 +71,8 @@ ForestFine s fixed group (state x b kids rest) =
     BodyFine s fixed group (has_states kids) b × (ends_in_transfers b ≡ true) × SeatFine s (seat_name x) kids
     × ForestFine s fixed (group_names kids) kids × ForestFine s fixed group rest
 
+-- A program of nested states is well formed: its declarations are, no name is a gate's, states have distinct names,
+-- each group has its register, and each body is fine.
 pub record IsPlain (p : Nested) : Type 0 where
   -- names, widths and first numbers, as in a flat program
   pub declares : IsGuarded (declarations p)

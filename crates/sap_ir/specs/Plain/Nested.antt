@@ -39,10 +39,12 @@ abbrev pub declarations : Nested → Source
 declarations p =
     record { inputs = p.inputs; wires = p.wires; registers = p.registers; memories = p.memories; ports = p.ports; commands = [] }
 
+-- There is a state.
 abbrev pub has_states : Forest → Bool
 has_states none = false
 has_states (state x b kids rest) = true
 
+-- How many states stand side by side.
 abbrev pub size : Forest → ℕ
 size none = 0
 size (state x b kids rest) = suc (size rest)

@@ -3,6 +3,7 @@ use Rattle.sap_ir.specs.declared.plain.nested.PlainParts.{PlainParts}
 use Rattle.sap_ir.specs.Plain.Nested.{Nested}
 use Rattle.sap_ir.specs.Plain.Views.{forest_of}
 
+-- The program of nested states that its stored parts stand for.
 abbrev pub parts_nested : PlainParts → Nested
 parts_nested p =
     record {

@@ -18,6 +18,7 @@ unfoldable mutual
   row_body end_of-PlainCmd = stop
   row_body (more_of-PlainCmd c rest) = command_before c (row_body rest)
 
+-- The body that stored commands stand for.
 unfoldable pub body_of : List PlainCmd → Body
 body_of [] = stop
 body_of (c ∷ cs) = command_before c (body_of cs)
@@ -31,6 +32,7 @@ unfoldable mutual
   row_forest end_of-PlainState = none
   row_forest (more_of-PlainState s rest) = state_before s (row_forest rest)
 
+-- The states that stored ones stand for.
 unfoldable pub forest_of : List PlainState → Forest
 forest_of [] = none
 forest_of (s ∷ ss) = state_before s (forest_of ss)

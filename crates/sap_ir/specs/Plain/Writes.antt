@@ -28,6 +28,7 @@ child_writes widths goes (state x b kids rest) zero g =
     body_writes widths (falls_of widths (seat_name x) kids) (λ h. child_writes widths (enter (seat_name x) kids) kids (h.now.value (seat_name x)) h) goes b g
 child_writes widths goes (state x b kids rest) (suc k) g = child_writes widths goes rest k g
 
+-- The names that a cycle assigns, in order.
 abbrev pub cycle_writes : Nested → (before : Option Valuation) → List ℕ → List Name
 cycle_writes p before xs =
     let g = begun (declarations p) before xs in

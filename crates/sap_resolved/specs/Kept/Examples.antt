@@ -11,9 +11,11 @@ use Rattle.sap_tree.specs.declared.version.Version.TheVariants.{One}
 use Rattle.sap_lattice.specs.Examples.{low_high}
 use Rattle.sap_resolved.specs.Kept.Hangs.{at_if, at_otherwise, at_fall, hang_table, hang_at_root}
 
+-- The kind `enforced low`.
 abbrev pub low : Kind
 low = enforced (codes "low")
 
+-- A group of one state.
 abbrev pub only : StateTree → StateList
 only s = and_state s no_state
 
@@ -25,6 +27,7 @@ a_is_one = binary_of no_spot operator.Eq (read (codes "a")) (number 1)
 abbrev pub set_x : SimpleCommand
 set_x = assign (named (codes "x")) (number 1)
 
+-- A `goto`.
 abbrev pub go : List ℕ → SimpleCommand
 go name = go_to nowhere (named name)
 

@@ -26,6 +26,7 @@ hanging (n ∷ ns) [] = []
 hanging (n ∷ ns) (true ∷ hang) = n ∷ hanging ns hang
 hanging (n ∷ ns) (false ∷ hang) = hanging ns hang
 
+-- The points of a step with the names of what they touch: only a `fall` is one.
 abbrev pub step_points : List (List ℕ) → Step → List Point
 step_points names (assign site x e) = []
 step_points names (write site m i e) = []
@@ -42,21 +43,27 @@ own_points names (if_else hang e a b) below = at_if (hanging names hang) ∷ bel
 own_points names (try_then k hang a b) below = step_points names k ++ at_then (hanging names hang) ∷ below
 own_points names (case_of hang e arms) below = at_case (hanging names hang) ∷ below
 
+-- The points of a command and of all commands in it, with the names of what they touch.
 abbrev pub points : List (List ℕ) → Command → List Point
 points names c = folded [] ◌++◌ (own_points names) c
 
+-- Those of the arms of a `case`.
 abbrev pub arms_points : List (List ℕ) → Arms → List Point
 arms_points names arms = folded_in_arms [] ◌++◌ (own_points names) arms
 
+-- Those of a block.
 abbrev pub block_points : List (List ℕ) → Block → List Point
 block_points names b = folded_in_block [] ◌++◌ (own_points names) b
 
+-- Those of a state's body and of its descendants' bodies.
 abbrev pub state_points : List (List ℕ) → State → List Point
 state_points names t = gathered_from [] ◌++◌ (λ s. block_points names (body_of s)) t
 
+-- Those of a group of states.
 abbrev pub group_points : List (List ℕ) → Group → List Point
 group_points names g = gathered_from_group [] ◌++◌ (λ s. block_points names (body_of s)) g
 
+-- The names of a design's entities, by their numbers.
 abbrev pub names_of : DesignTree → List (List ℕ)
 names_of d = map (λ e. e.name.name) (entities_of d)
 
@@ -64,6 +71,7 @@ names_of d = map (λ e. e.name.name) (entities_of d)
 abbrev pub hang_table : Levels → DesignTree → List Point
 hang_table ls d = group_points (names_of d) (program_of ls d).states
 
+-- The names of what the root touches.
 abbrev pub hang_at_root : Levels → DesignTree → List (List ℕ)
 hang_at_root ls d = hanging (names_of d) (program_of ls d).hang
 
@@ -76,6 +84,7 @@ step_rows (retag_cell site m j n) = []
 step_rows (go_to site target) = []
 step_rows (fall_to_child site hang) = hang ∷ []
 
+-- The lists that a command stores itself, before those that stand in its blocks.
 abbrev pub own_rows : Command → (below : List (List Bool)) → List (List Bool)
 own_rows (lone k) below = step_rows k
 own_rows (try k hang h) below = step_rows k ++ hang ∷ below
@@ -83,18 +92,23 @@ own_rows (if_else hang e a b) below = hang ∷ below
 own_rows (try_then k hang a b) below = step_rows k ++ hang ∷ below
 own_rows (case_of hang e arms) below = hang ∷ below
 
+-- The lists that a command and all commands in it store, in order.
 abbrev pub rows : Command → List (List Bool)
 rows c = folded [] ◌++◌ own_rows c
 
+-- Those of the arms of a `case`.
 abbrev pub arms_rows : Arms → List (List Bool)
 arms_rows arms = folded_in_arms [] ◌++◌ own_rows arms
 
+-- Those of a block.
 abbrev pub block_rows : Block → List (List Bool)
 block_rows b = folded_in_block [] ◌++◌ own_rows b
 
+-- Those of a state's body and of its descendants' bodies.
 abbrev pub state_rows : State → List (List Bool)
 state_rows t = gathered_from [] ◌++◌ (λ s. block_rows (body_of s)) t
 
+-- Those of a group of states.
 abbrev pub group_rows : Group → List (List Bool)
 group_rows g = gathered_from_group [] ◌++◌ (λ s. block_rows (body_of s)) g
 
@@ -102,8 +116,10 @@ group_rows g = gathered_from_group [] ◌++◌ (λ s. block_rows (body_of s)) g
 abbrev pub row_of : List Entity → (List ℕ → Bool) → List Bool
 row_of es test = map (λ e. test e.name.name) es
 
+-- Which entities the command at a point of the tree touches, as a list over the entities' numbers.
 abbrev pub point_row : List Decl → List Entity → tree_points.Point → List Bool
 point_row ds es p = row_of es (tree.touches ds p.home p.command)
 
+-- These lists for all points of a design, in the order of the text.
 abbrev pub rows_of : DesignTree → List (List Bool)
 rows_of d = map (point_row d.declarations (entities_of d)) (tree_points.points_of d)

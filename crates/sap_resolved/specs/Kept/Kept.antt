@@ -28,9 +28,11 @@ IsNth (x ∷ xs) (suc n) name = IsNth xs n name
 abbrev pub IsNamed : List Entity → (x : ℕ) → (name : List ℕ) → Type 0
 IsNamed es x name = IsNth (map (λ e. e.name.name) es) x name
 
+-- The level of this number has this name.
 abbrev pub IsLevel : Levels → (n : ℕ) → (name : List ℕ) → Type 0
 IsLevel ls n name = IsNth ls.names n name
 
+-- An expression of the tree is this expression over numbers.
 abbrev mutual
   -- An expression. A number without a width has some width. Parts stand in front of one another. What is widened has zeros in front, as many as
   -- it lacks, and none where it lacks none.
@@ -87,6 +89,7 @@ IsConstant (literal spot value) n = value ≡ n
 IsConstant (sized_literal spot width value) n = value ≡ n
 IsConstant _ n = n ≡ 0
 
+-- The constants of an arm are these numbers.
 abbrev pub AreConstants : Expressions → List ℕ → Type 0
 AreConstants no_part [] = Unit {0}
 AreConstants (and_part e parts) (n ∷ ns) = IsConstant e n × AreConstants parts ns
@@ -142,6 +145,7 @@ IsDeclared ls (Input place name width) e = (e.kind ≡ program.input) × (e.widt
 IsDeclared ls (Register place name width kind start) e = (e.kind ≡ program.register) × (e.width ≡ width.value) × HasKind ls kind e × StartsWith start e.initial
 IsDeclared ls (Memory place name width depth kind) e = (e.kind ≡ program.memory depth.value) × (e.width ≡ width.value) × HasKind ls kind e
 
+-- The name that a declaration declares.
 abbrev pub declared_name : Decl → List ℕ
 declared_name (Input place name width) = name.name
 declared_name (Register place name width kind start) = name.name

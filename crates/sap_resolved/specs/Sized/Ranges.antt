@@ -18,9 +18,11 @@ RangedTerm w (choose c a b) = RangedTerm w c × RangedTerm w a × RangedTerm w b
 RangedTerm w (join a b) = IsWidth (width_of w a + width_of w b) × RangedTerm w a × RangedTerm w b
 RangedTerm w (part a hi lo) = (lo ≤ hi) × (hi < width_of w a) × RangedTerm w a
 
+-- In a tag expression each expression has such widths and slices.
 abbrev pub RangedLevel : World → LevelTerm → Type 0
 RangedLevel w n = EveryLevel (λ level. Unit {0}) (RangedTerm w) n
 
+-- In a step each expression has such widths and slices.
 abbrev pub RangedStep : World → Step → Type 0
 RangedStep w (assign site x e) = RangedTerm w e
 RangedStep w (write site m i e) = RangedTerm w i × RangedTerm w e
@@ -29,18 +31,23 @@ RangedStep w (retag_cell site m j n) = RangedTerm w j × RangedLevel w n
 RangedStep w (go_to site target) = Unit {0}
 RangedStep w (fall_to_child site hang) = Unit {0}
 
+-- In a command, and in all commands in it, each expression has such widths and slices.
 abbrev pub Ranged : World → Command → Type 0
 Ranged w c = Every (Asks (RangedStep w) (RangedTerm w)) c
 
+-- In the arms of a `case` each has.
 abbrev pub RangedArms : World → Arms → Type 0
 RangedArms w arms = EveryInArms (Asks (RangedStep w) (RangedTerm w)) arms
 
+-- In a block each has.
 abbrev pub RangedBlock : World → Block → Type 0
 RangedBlock w b = EveryInBlock (Asks (RangedStep w) (RangedTerm w)) b
 
+-- In a state's body, and in those of its descendants, each has.
 abbrev pub RangedState : World → State → Type 0
 RangedState w t = EveryBody (RangedBlock w) t
 
+-- In the bodies of a group's states and of their descendants each has.
 abbrev pub RangedGroup : World → Group → Type 0
 RangedGroup w g = EveryBodyIn (RangedBlock w) g
 

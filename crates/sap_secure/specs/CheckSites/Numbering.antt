@@ -19,5 +19,6 @@ numbered k (s ∷ ss) = record { number = k; kind = s.kind; entity = s.entity } 
 abbrev pub OneNumbering : Levels → DesignTree → Type 0
 OneNumbering ls d = sites_in (program_of ls d) ≡ numbered 1 (sites_of d)
 
+-- In each well-formed design the check sites of the report are the sites of the program, with the same numbers.
 abbrev pub SitesAgree : Type 0
 SitesAgree = (ls : Levels) (d : DesignTree) → WellFormed ls d → OneNumbering ls d

@@ -6,11 +6,13 @@ use Rattle.sap_meaning.specs.Program.{Program, Step, assign, write, retag, retag
 use Rattle.sap_meaning.specs.Checks.{site_of}
 use Rattle.sap_meaning.specs.Sites.{PlacedStep, placed_sites}
 
+-- A site of a program: its number, what kind of step stands there, and the entity that it would change.
 pub record ProgramSite : Type 0 where
   pub number : ℕ
   pub kind : SiteKind
   pub entity : ℕ
 
+-- The kind of the site at which a step stands.
 abbrev pub kind_of_step : Step → SiteKind
 kind_of_step (assign site x e) = kind.Write
 kind_of_step (write site m i e) = kind.Write
@@ -28,8 +30,10 @@ entity_of s (retag_cell site m j n) = m
 entity_of s (go_to site target) = target
 entity_of s (fall_to_child site hang) = s
 
+-- The site of a step that stands in a state.
 abbrev pub program_site : PlacedStep → ProgramSite
 program_site k = record { number = site_of k.step; kind = kind_of_step k.step; entity = entity_of k.state k.step }
 
+-- The sites of a program, in the order of its steps.
 abbrev pub sites_in : Program → List ProgramSite
 sites_in p = map program_site (placed_sites p)

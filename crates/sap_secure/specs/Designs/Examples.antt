@@ -17,6 +17,7 @@ use Rattle.sap_lattice.specs.Examples.{low_high}
 abbrev pub guarded : (level authority : List ℕ) → Kind
 guarded level authority = let under : Under = record { place = nowhere; level = named authority } in Enforced (named level) (Some under)
 
+-- A block of one command.
 abbrev pub one : Command → CommandBlock
 one c = block (c ∷ [])
 
@@ -74,6 +75,7 @@ sample = record {
   states = and_state state_p (and_state state_q no_state);
 }
 
+-- The sample is well formed over two levels.
 abbrev pub Formed : Type 0
 Formed = WellFormed low_high sample
 

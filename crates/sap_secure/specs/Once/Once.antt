@@ -39,11 +39,14 @@ ChangesOneCell p = (inputs : List Tagged) (s : Store) → Resting p.world s → 
 abbrev pub InDesigns : (Program → Type 0) → Type 0
 InDesigns Law = (ls : Levels) (d : DesignTree) → Laws (order_of ls) → WellFormed ls d → Law (program_of ls d)
 
+-- In designs, a cycle writes each memory at most once.
 abbrev pub DesignsWriteOnce : Type 0
 DesignsWriteOnce = InDesigns WritesOnce
 
+-- In designs, the cells of a memory that no step of a cycle writes are as they were.
 abbrev pub UnwrittenStaysInDesigns : Type 0
 UnwrittenStaysInDesigns = InDesigns UnwrittenStays
 
+-- In designs, a cycle changes at most one cell of each memory.
 abbrev pub DesignsChangeOneCell : Type 0
 DesignsChangeOneCell = InDesigns ChangesOneCell

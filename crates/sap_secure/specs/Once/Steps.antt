@@ -44,6 +44,7 @@ picked w e hangs pick pc s =
     let t = tag w e s in
     pick (value w e s) (w.order.join pc t) (raise w.order hangs t s)
 
+-- The steps of an arm where the number is one of its constants, else those of the other arms.
 abbrev pub arm_steps : List ℕ → (ℕ → Store → List Step) → (ℕ → ℕ → Store → List Step) → ℕ → ℕ → Store → List Step
 arm_steps constants arm others n pc s = if is_constant constants n then arm pc s else others n pc s
 

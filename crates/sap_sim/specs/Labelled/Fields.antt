@@ -14,5 +14,6 @@ field_of (Register width) = None
 field_of (Memory width depth) = None
 field_of State = None
 
+-- The fields of a line, for a design's inputs.
 abbrev pub design_fields : DesignTree → List Field
 design_fields d = filter_map (λ e. field_of e.what) (entities_of d)

@@ -29,9 +29,11 @@ registers_shown ls d s x [] = []
 registers_shown ls d s x (e ∷ es) =
     (if kind_is_register e.kind then register_shown ls d s x ∷ [] else []) ++ registers_shown ls d s (x + 1) es
 
+-- The row of a cycle of the labelled meaning.
 abbrev pub labelled_row : Levels → Named → (cycle : ℕ) → Store → List ℕ
 labelled_row ls d cycle s = row_text cycle (registers_shown ls d s 0 (world d).entities)
 
+-- The rows of a labelled run, from a cycle on.
 abbrev pub rows_of_run : Levels → Named → (cycle : ℕ) → List After → List ℕ
 rows_of_run ls d = told_from (λ cycle (a : After). labelled_row ls d cycle a.store)
 

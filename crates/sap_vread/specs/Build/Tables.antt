@@ -7,6 +7,7 @@ use Rattle.sap_vread.specs.Build.Noted.{all_noted, ports_noted}
 use Rattle.sap_vread.specs.declared.build.noting.Noting.TheVariants.{Range, Start, Next, Write}
 use Rattle.sap_vread.specs.declared.build.tables.Tables.{Tables}
 
+-- The tables have, for each name, what the module's ports and items note first.
 pub record AreNoted (t : Tables) (f : File) : Type 0 where
   pub ranges : (n : List ℕ) → number_of t.ranges n ≡ first_of (ports_noted n f.ports) (all_noted Range n 0 f.items)
   pub starts : (n : List ℕ) → number_of t.starts n ≡ all_noted Start n 0 f.items
