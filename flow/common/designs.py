@@ -1,4 +1,4 @@
-"""Designs as the program reports them, and their trees as the independent parser of bench/model reads them."""
+"""Designs as the program reports them, and their trees as the independent parser of test/model reads them."""
 import os
 import re
 import sys
@@ -7,7 +7,7 @@ from dataclasses import dataclass
 
 from .program import TOP, Stop, read, told
 
-sys.path.insert(1, f"{TOP}/bench")
+sys.path.insert(1, f"{TOP}/test")
 from model.parser import tree_of  # noqa: E402
 from model.tree import Dynamic, Input, Memory, Register, states_below  # noqa: E402
 

@@ -3,7 +3,7 @@ import sys
 
 from .program import TOP
 
-sys.path.insert(1, f"{TOP}/bench")
+sys.path.insert(1, f"{TOP}/test")
 from model.tokens import KEYWORDS_OF_VERSION_2, Fault, tokens_of  # noqa: E402
 
 FIRST_WORDS = ("input", "reg", "mem", "state", "goto")

@@ -1,4 +1,4 @@
-"""The words of to_subset, and what it names; bench/verilog compares what it writes."""
+"""The words of to_subset, and what it names; test/verilog compares what it writes."""
 import os
 
 from .support import Folder, example, needs

@@ -88,7 +88,7 @@ def host_lines(source, folder):
 
 def sources(top):
     """The C programs that end by themselves, and those that are neighbours only."""
-    ours, theirs = os.path.join(top, "examples", "riscv", "programs"), os.path.join(top, "bench", "rv32i", "c")
+    ours, theirs = os.path.join(top, "examples", "riscv", "programs"), os.path.join(top, "test", "rv32i", "c")
     ending = [os.path.join(ours, f"{name}.c") for name in ("sha256", "sort", "interpreter")]
     ending += [os.path.join(theirs, name) for name in sorted(os.listdir(theirs))]
     return ending, [os.path.join(ours, f"{name}.c") for name in ("pry", "loop", "scribble", "jump", "illegal")]

@@ -1,7 +1,7 @@
 """A model of the language Sapper in plain Python, and random designs that the built program is compared with.
 
-The model is written after the rules in docs/LANGUAGE.md and docs/COMMANDS.md and shares nothing with the program, so that
-the two can go wrong in different places. It takes the slow and simple way everywhere.
+The model is written after the rules in docs/LANGUAGE.md, docs/FORMATS.md and docs/COMMANDS.md and shares nothing with the
+program, so that the two can go wrong in different places. It takes the slow and simple way everywhere.
 
     tokens, tree, parser    the text of a design, and its read faults
     lattice                 levels, their order, joins and codes
@@ -13,7 +13,7 @@ the two can go wrong in different places. It takes the slow and simple way every
                             what is drawn at random
     examples, compare       two scripts: the model on the repository's examples, the program beside the model
 
-Beside it stands a model of modules and of dumps, after docs/MODULES.md and docs/COMMANDS.md:
+Beside it stands a model of modules and of dumps, after docs/MODULES.md and docs/FORMATS.md:
 
     modules                 the text of a module, and what it does in a cycle
     waves                   the dump of a run, the reading of a dump with its first fault, and its rows
@@ -37,14 +37,14 @@ And beside examples/certify, which asks a solver about modules:
     certified_table, certified
                             two scripts: modules damaged by hand, certified; those of designs drawn at random, damaged ones, and those of the examples
 
-And of the time-sliced machine, after docs/COMMANDS.md:
+And of the time-sliced machine, after docs/COMMANDS.md and docs/FORMATS.md:
 
     programs                assembly, the instruction table, slices, and the texts of two programs
     random_programs         programs and streams of words drawn at random
     program_table, compare_programs
                             two scripts: the model on what was worked out by hand, the program beside the model
 
-And of linked designs, after docs/COMMANDS.md:
+And of linked designs, after docs/FORMATS.md and docs/LANGUAGE.md:
 
     links                   a system file with its first fault, the composite run, its rows, and the ports of its module
     random_links            systems drawn at random, and damaged ones

@@ -1,4 +1,4 @@
-"""Linked designs: a system file with its faults K1 to K9, and what its parts do together, by docs/COMMANDS.md."""
+"""Linked designs: a system file with its faults K1 to K9, and what its parts do together, by docs/FORMATS.md and docs/LANGUAGE.md."""
 
 import re
 import tomllib

@@ -228,7 +228,7 @@ def main():
     try:
         count, seed = int((words or ["40"])[0]), int((words[1:] or ["1"])[0])
     except ValueError:
-        print("Usage: bench/certified [COUNT] [SEED] | examples [NAME..] | memories [CELLS..]", file=sys.stderr)
+        print("Usage: test/certified [COUNT] [SEED] | examples [NAME..] | memories [CELLS..]", file=sys.stderr)
         return 2
     return drawn(program, count, seed)
 

@@ -1,4 +1,4 @@
-"""The time-sliced machine without its design: assembly, the instruction table, slices of time, and the texts of two programs, by docs/COMMANDS.md."""
+"""The time-sliced machine without its design: assembly, the instruction table, slices of time, and the texts of two programs, by docs/COMMANDS.md and docs/FORMATS.md."""
 
 import re
 from dataclasses import dataclass, field
