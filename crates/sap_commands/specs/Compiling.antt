@@ -15,7 +15,8 @@ use Rattle.sap_files.specs.declared.failure.Failure.{Failure}
 use Rattle.sap_files.specs.declared.failure.Failure.TheVariants.{Refused, Memory}
 use Rattle.sap_files.specs.declared.refusal.Refusal.TheVariants.{Lattice, Design}
 use Rattle.sap_files.specs.Ending.{Ending}
-use Rattle.sap_files.specs.Kinds.{IsLatticeFile, design_file}
+use Rattle.sap_files.specs.Contents.{IsLatticeFile}
+use Rattle.sap_files.specs.Kinds.{design_file}
 use Rattle.sap_files.specs.Steps.{Ends, EndsReading, Moment, Reads, Refuses, ending}
 use Rattle.sap_commands.specs.Commands.{asks_streams}
 

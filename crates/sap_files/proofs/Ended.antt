@@ -41,7 +41,7 @@ quiet_then p q = record { told = q.told ∙ p.told; faults = q.faults ∙ p.faul
 
 -- a file stands for a value, and what is asked behind it is done
 
-module _ (name : List ℕ) (k : Kind) (rest : k.Value → Asks) (v : k.Value) (t : Told) (has : Has t name k v) where
+module _ (name : List ℕ) (k : Kind) (rest : k.Value → Asks) (v : k.Value) (t : Told) (has : Has t name k.Stands v) where
   cut_past : (gained : List ℕ) → IsCut (rest v) t gained → IsCut (file name k rest) t gained
   cut_past gained (inl none) = inl none
   cut_past gained (inr (text, (e, shows), prefix)) = inr (text, (e, inr (v, has, shows)), prefix)

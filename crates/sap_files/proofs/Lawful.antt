@@ -4,12 +4,12 @@ use Rattle.sap_desk.specs.Desk.{Told}
 use Rattle.sap_files.specs.Prelude.{Ending, Refusal, refused, Kind, Has, IsRefused, IsLawful, Asks, file, by, gives, prints, writes, stops, AreLawful, Cause, EndsAtFile, Shows, end_of}
 
 module _ (k : Kind) (law : IsLawful k) (t : Told) (name : List ℕ) where
-  pub one_value : (v w : k.Value) → Has t name k v → Has t name k w → v ≡ w
+  pub one_value : (v w : k.Value) → Has t name k.Stands v → Has t name k.Stands w → v ≡ w
   one_value v w has had =
       let P : List ℕ → Type 0 = λ bytes. k.Stands bytes w in
       law.one_value has.bytes v w has.stands (subst P (some_unique (t.files name) had.bytes has.bytes had.file has.file) had.stands)
 
-  pub not_both : (v : k.Value) (why : Refusal) → Has t name k v → IsRefused t name k why → ⊥
+  pub not_both : (v : k.Value) (why : Refusal) → Has t name k.Stands v → IsRefused t name k why → ⊥
   not_both v why has is =
       let P : List ℕ → Type 0 = λ bytes. k.Refused bytes why in
       law.not_both has.bytes v why has.stands (subst P (some_unique (t.files name) is.bytes has.bytes is.file has.file) is.refused)

@@ -3,7 +3,8 @@ use Rattle.std.specs.Prelude.{◌≡◌, ◌⊎◌, ◌≤◌, ℕ, List, [], ta
 use Rattle.sap_desk.specs.Desk.{Told, at_name}
 use Rattle.sap_stim.specs.declared.fault.StimFault.{StimFault}
 use Rattle.sap_files.specs.Ending.{Ending, Refusal, done, refused, failed, no_memory, stimulus_refused}
-use Rattle.sap_files.specs.Kinds.{Kind, Has, IsRefused, IsLawful}
+use Rattle.sap_files.specs.Contents.{Has}
+use Rattle.sap_files.specs.Kinds.{Kind, IsRefused, IsLawful}
 
 pub data Asks : Type 1 where
   -- reads the file of this name as one of this kind, and goes on with its value
@@ -31,7 +32,7 @@ EndsAtFile t name k e = (why : Refusal) × (e ≡ refused why) × IsRefused t na
 
 -- Why a command ends so: of its files, in order, this is the first that is refused; or all stand for values, and it comes to its end.
 abbrev pub Cause : Asks → Told → Ending → Type 0
-Cause (file name k rest) t e = EndsAtFile t name k e ⊎ ((v : k.Value) × Has t name k v × Cause (rest v) t e)
+Cause (file name k rest) t e = EndsAtFile t name k e ⊎ ((v : k.Value) × Has t name k.Stands v × Cause (rest v) t e)
 Cause (by V Holds rest) t e = (v : V) × Holds v × Cause (rest v) t e
 Cause (gives text) t e = e ≡ done
 Cause (prints name text fault) t e = (bytes : List ℕ) × (t.files name ≡ Some bytes) × (e ≡ end_of (fault bytes))
@@ -52,7 +53,7 @@ MayEnd (stops why) e = e ≡ refused why
 -- What channel 1 gains where it ends so: nothing where a file is refused, and else the text that it gives.
 abbrev pub Shows : Asks → Told → Ending → (gained : List ℕ) → Type 0
 Shows (file name k rest) t e gained =
-    (EndsAtFile t name k e × (gained ≡ [])) ⊎ ((v : k.Value) × Has t name k v × Shows (rest v) t e gained)
+    (EndsAtFile t name k e × (gained ≡ [])) ⊎ ((v : k.Value) × Has t name k.Stands v × Shows (rest v) t e gained)
 Shows (by V Holds rest) t e gained = (v : V) × Holds v × Shows (rest v) t e gained
 Shows (gives text) t e gained = (e ≡ done) × text gained
 Shows (prints name text fault) t e gained = (bytes : List ℕ) × (t.files name ≡ Some bytes) × (e ≡ end_of (fault bytes)) × text bytes gained
@@ -84,7 +85,7 @@ Files = List ℕ → Option (List ℕ)
 
 -- the files where it is done: the one that it writes has such a text, and all others are as before
 abbrev pub Written : Asks → Told → Files → Type 0
-Written (file name k rest) t files = (v : k.Value) × Has t name k v × Written (rest v) t files
+Written (file name k rest) t files = (v : k.Value) × Has t name k.Stands v × Written (rest v) t files
 Written (by V Holds rest) t files = (v : V) × Holds v × Written (rest v) t files
 Written (gives text) t files = files ≡ t.files
 Written (prints name text fault) t files = files ≡ t.files
@@ -93,7 +94,7 @@ Written (stops why) t files = files ≡ t.files
 
 -- the files where it was cut off in writing, which blames this: the one that it writes, and that is blamed, has a prefix of such a text
 abbrev pub WrittenInPart : Asks → Told → (blamed : List ℕ) → Files → Type 0
-WrittenInPart (file name k rest) t blamed files = (v : k.Value) × Has t name k v × WrittenInPart (rest v) t blamed files
+WrittenInPart (file name k rest) t blamed files = (v : k.Value) × Has t name k.Stands v × WrittenInPart (rest v) t blamed files
 WrittenInPart (by V Holds rest) t blamed files = (v : V) × Holds v × WrittenInPart (rest v) t blamed files
 WrittenInPart (gives text) t blamed files = ⊥
 WrittenInPart (prints name text fault) t blamed files = ⊥

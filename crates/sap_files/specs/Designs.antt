@@ -9,9 +9,10 @@ use Rattle.sap_names.specs.declared.fault.CheckFault.{CheckFault}
 use Rattle.sap_names.specs.declared.fault.CheckFault.TheVariants as check_fault
 use Rattle.sap_check.specs.Checked.{levels_in, tree_in}
 use Rattle.sap_check.specs.declared.checked.Checked.{Checked}
+use Rattle.sap_files.specs.Contents.{IsWellFormedText}
 use Rattle.sap_files.specs.DesignFaults.{IsDesignFault}
 use Rattle.sap_files.specs.Ending.{Ending, refused, failed, no_memory, design_refused}
-use Rattle.sap_files.specs.Kinds.{IsWellFormedText, design_file}
+use Rattle.sap_files.specs.Kinds.{design_file}
 use Rattle.sap_files.specs.Steps.{EndsReading, Moment, Reads, Stops}
 use Rattle.sap_files.specs.declared.fault.DesignFault.TheVariants.{Read, Check}
 use Rattle.sap_files.specs.declared.failure.DesignFailure.{DesignFailure}

@@ -1,14 +1,13 @@
 -- The kinds of files that commands read.
-use Rattle.std.specs.Prelude.{◌≡◌, ℕ, Bool, List, length, map, Option, Some, None, Ok, Err}
+use Rattle.std.specs.Prelude.{◌≡◌, ℕ, List, Option, Some, None, Ok, Err}
 use Rattle.sap_desk.specs.Desk.{Told}
-use Rattle.sap_lattice.specs.Levels.{Levels, numbers, order_of}
-use Rattle.sap_latfile.specs.LatticeFile.{IsLatticeOfFile, FirstFault}
+use Rattle.sap_lattice.specs.Levels.{Levels}
+use Rattle.sap_latfile.specs.LatticeFile.{FirstFault}
 use Rattle.sap_latfile.specs.declared.fault.LatFileFault.{LatFileFault}
 use Rattle.sap_tree.specs.Syntax.{DesignTree}
 use Rattle.sap_parse.specs.Limits.{most_bytes}
 use Rattle.sap_parse.specs.Text.{IsText, IsReadFault}
 use Rattle.sap_lex.specs.declared.fault.ReadFault.{ReadFault}
-use Rattle.sap_shape.specs.WellFormed.{WellFormed}
 use Rattle.sap_meaning.specs.Cycle.{Tagged}
 use Rattle.sap_stim.specs.declared.fault.StimFault.{StimFault}
 use Rattle.sap_stim.specs.declared.stimulus.Parsed.{Parsed}
@@ -24,7 +23,9 @@ use Rattle.sap_wave.specs.Waves.{Wave}
 use Rattle.sap_wave.specs.declared.fault.WaveFault.{WaveFault}
 use Rattle.sap_machine.specs.Assembly.{assembled}
 use Rattle.sap_machine.specs.declared.fault.AsmFault.{AsmFault}
+use Rattle.sap_files.specs.Contents.{IsLatticeFile, IsWellFormedText}
 use Rattle.sap_files.specs.DesignFaults.{IsDesignFault}
+use Rattle.sap_files.specs.StimulusTexts.{IsWholeStream}
 use Rattle.sap_files.specs.declared.fault.DesignFault.{DesignFault}
 use Rattle.sap_files.specs.declared.fault.DesignFault.TheVariants as design_fault
 use Rattle.sap_files.specs.Ending.{Refusal, lattice_refused, design_refused, stimulus_refused, module_refused, wave_refused, asm_refused}
@@ -43,27 +44,13 @@ pub record IsLawful (k : Kind) : Type 0 where
   pub one_reason : (bytes : List ℕ) (why other : Refusal) → k.Refused bytes why → k.Refused bytes other → why ≡ other
   pub not_both : (bytes : List ℕ) (v : k.Value) (why : Refusal) → k.Stands bytes v → k.Refused bytes why → ⊥
 
--- there is a file of this name, and its bytes stand for this value
-pub record Has (t : Told) (name : List ℕ) (k : Kind) (v : k.Value) : Type 0 where
-  pub bytes : List ℕ
-  pub file : t.files name ≡ Some bytes
-  pub stands : k.Stands bytes v
-
--- there is one, and its bytes are refused
+-- there is a file of this name, and its bytes are refused
 pub record IsRefused (t : Told) (name : List ℕ) (k : Kind) (why : Refusal) : Type 0 where
   pub bytes : List ℕ
   pub file : t.files name ≡ Some bytes
   pub refused : k.Refused bytes why
 
--- Lattice files. Of the tables that say which level is at or below which, the one with a row for each level and in it a place for each.
-
-abbrev pub table_by : ℕ → (ℕ → ℕ → Bool) → List (List Bool)
-table_by count le = map (λ x. map (le x) (numbers count)) (numbers count)
-
-pub record IsLatticeFile (bytes : List ℕ) (ls : Levels) : Type 0 where
-  pub lattice : IsLatticeOfFile bytes ls
-  pub table : ls.table ≡ table_by (length ls.names) (order_of ls).le
-
+-- lattice files
 abbrev pub lattice_file : Kind
 lattice_file = record {
   most = None;
@@ -73,11 +60,6 @@ lattice_file = record {
 }
 
 -- Design files whose design is well formed over the levels of a lattice. They are read no further than shows that they are too long.
-
-pub record IsWellFormedText (ls : Levels) (source : List ℕ) (d : DesignTree) : Type 0 where
-  pub is_text : IsText source d
-  pub well_formed : WellFormed ls d
-
 abbrev pub design_file : Levels → Kind
 design_file ls = record {
   most = Some most_bytes;
@@ -110,7 +92,7 @@ abbrev pub stream_by : (place : ℕ) → (read : List ℕ → Parsed) → Kind
 stream_by place read = record {
   most = None;
   Value = List (List Tagged);
-  Stands = λ bytes stream. read bytes ≡ record { stream = stream; fault = None };
+  Stands = IsWholeStream read;
   Refused = λ bytes why. (fault : StimFault) × (why ≡ stimulus_refused place fault) × ((read bytes).fault ≡ Some fault);
 }
 

@@ -1,5 +1,6 @@
 pub mod DesignFaults
 pub mod Ending
+pub mod Contents
 pub mod Kinds
 pub mod Asks
 pub mod After

@@ -3,7 +3,7 @@ use Rattle.std.specs.Prelude.{◌≡◌, ◌⊎◌, ℕ, List, length, Option, S
 use Rattle.sap_desk.specs.Desk.{Told, bytes_of, stream}
 use Rattle.sap_desk.specs.Whole.{MissingOrLong}
 use Rattle.sap_lines.specs.Stepping.Printed.{MissingOrTooLong}
-use Rattle.sap_files.specs.Kinds.{Has}
+use Rattle.sap_files.specs.Contents.{Has}
 use Rattle.sap_files.specs.Asks.{Asks, file, by, gives, prints, writes, stops}
 
 -- a file holds as much as there is room for
@@ -22,7 +22,7 @@ IsUnreadable (Some most) name t = t.files name ≡ None
 -- A file that the command reads can't be read, those before it standing for values; of a stimulus that is printed line by line as much can't be read as tells its
 -- refused line; or what the command writes fills the room.
 abbrev pub OutsideOf : Asks → Told → Told → Type 0
-OutsideOf (file name k rest) t n = IsUnreadable k.most name t ⊎ ((v : k.Value) × Has t name k v × OutsideOf (rest v) t n)
+OutsideOf (file name k rest) t n = IsUnreadable k.most name t ⊎ ((v : k.Value) × Has t name k.Stands v × OutsideOf (rest v) t n)
 OutsideOf (by V Holds rest) t n = (v : V) × Holds v × OutsideOf (rest v) t n
 OutsideOf (gives text) t n = FullOutput t n
 OutsideOf (prints name text fault) t n = MissingOrTooLong fault name t ⊎ FullOutput t n

@@ -22,7 +22,8 @@ use Rattle.sap_wave.specs.declared.fault.WaveFault.TheVariants as wave_fault
 use Rattle.sap_files.specs.declared.fault.DesignFault.TheVariants as design_fault
 use Rattle.sap_files.specs.Ending.{Ending, Refusal as Reason, done, refused, failed, no_memory, lattice_refused, design_refused, part_refused, system_refused, wires_refused, stimulus_refused, module_refused, taint_refused, level_refused, lengths_apart, inputs_apart, wave_refused, asm_refused, IsFree}
 use Rattle.sap_files.specs.Tainting.{HasTaintOf, IsTaintedText}
-use Rattle.sap_files.specs.Kinds.{Kind, IsLatticeFile, IsWellFormedText, design_file, lattice_file, table_by}
+use Rattle.sap_files.specs.Contents.{IsLatticeFile, IsWellFormedText, table_by}
+use Rattle.sap_files.specs.Kinds.{Kind, design_file, lattice_file}
 use Rattle.sap_stim.specs.declared.field.Field.{Field}
 use Rattle.sap_stim.specs.Stimulus.{stimulus_of}
 use Rattle.sap_lines.specs.Stepping.Followed.{IsPartShown}

@@ -9,7 +9,8 @@ use Rattle.sap_system.specs.declared.fault.SysFault.{SysFault}
 use Rattle.sap_files.specs.DesignFaults.{IsDesignFault}
 use Rattle.sap_files.specs.declared.fault.DesignFault.{DesignFault}
 use Rattle.sap_files.specs.Ending.{part_refused, system_refused}
-use Rattle.sap_files.specs.Kinds.{Kind, IsWellFormedText}
+use Rattle.sap_files.specs.Contents.{IsWellFormedText}
+use Rattle.sap_files.specs.Kinds.{Kind}
 
 -- system files
 abbrev pub system_file : Kind

@@ -18,7 +18,7 @@ use Rattle.sap_system.specs.declared.link_fault.LinkFault.TheVariants as link_fa
 use Rattle.sap_linked.specs.Designs.{NamedDesign, IsNetOfDesign}
 use Rattle.sap_linker.specs.Given.{surroundings}
 use Rattle.sap_files.specs.Ending.{Ending, refused, failed, no_memory, part_refused, wires_refused}
-use Rattle.sap_files.specs.Kinds.{IsWellFormedText}
+use Rattle.sap_files.specs.Contents.{IsWellFormedText}
 use Rattle.sap_files.specs.Steps.{EndsReading, Moment, Quiet, Reads, ending}
 use Rattle.sap_files.specs.declared.failure.Failure.{Failure}
 use Rattle.sap_files.specs.declared.failure.Failure.TheVariants as failure

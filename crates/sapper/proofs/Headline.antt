@@ -6,7 +6,7 @@ use Rattle.sap_desk.proofs.Steps.{at_name-same}
 use Rattle.sap_lattice.specs.Levels.{Levels}
 use Rattle.sap_tree.specs.Syntax.{DesignTree}
 use Rattle.sap_words.specs.Words.{Words, compile}
-use Rattle.sap_files.specs.Prelude.{Has, IsWellFormedText, lattice_file, design_file, Ending, Refusal, done, refused, failed, no_memory, no_command, lattice_refused, design_refused, part_refused, system_refused, wires_refused, stimulus_refused, module_refused, taint_refused, level_refused, lengths_apart, inputs_apart, wave_refused, asm_refused, status_of, IsFree, file, writes, Cause, Files, Leaves, Written}
+use Rattle.sap_files.specs.Prelude.{Has, IsLatticeFile, IsWellFormedText, lattice_file, design_file, Ending, Refusal, done, refused, failed, no_memory, no_command, lattice_refused, design_refused, part_refused, system_refused, wires_refused, stimulus_refused, module_refused, taint_refused, level_refused, lengths_apart, inputs_apart, wave_refused, asm_refused, status_of, IsFree, file, writes, Cause, Files, Leaves, Written}
 use Rattle.sap_commands.specs.Commands.{IsModuleText, asks, asks_for, asks_if}
 use Rattle.sapper.specs.Answers.{Answers}
 use Rattle.sapper.specs.Exact.{Exact}
@@ -27,8 +27,6 @@ means ls d text (net, is) = record {
   means = is.stands.stands;
   agree = is.agrees;
   look_alike = is.looks_alike;
-  tidy = is.tidy;
-  small = is.small;
 }
 
 -- the status 0 is that of a call that is done alone
@@ -69,13 +67,13 @@ by_cause words t answer e status (inr cause) no_failure no_want = cause
 
 module _ (lattice design out : List ℕ) (answer : ℕ) (t n : Told) where
   written : Written (asks (compile lattice design out)) t n.files
-      → (ls : Levels) × (d : DesignTree) × Has t lattice lattice_file ls × Has t design (design_file ls) d
+      → (ls : Levels) × (d : DesignTree) × Has t lattice IsLatticeFile ls × Has t design (IsWellFormedText ls) d
       × ((text : List ℕ) × (n.files out ≡ Some text) × MeansDesign ls d text)
   written (ls, has, (d, is, (text, module_for, files))) =
       (ls, d, has, is, (text, ap (λ (fs : Files). fs out) files ∙ at_name-same out (Some text) t.files, means ls d text module_for))
 
   always : ((e : Ending) → Cause (asks (compile lattice design out)) t e → (answer ≡ status_of e) ⊎ ((answer ≡ 6) ⊎ (answer ≡ 7)))
-      → (ls : Levels) (d : DesignTree) → Has t lattice lattice_file ls → Has t design (design_file ls) d → answer ≢ 6 → answer ≢ 7 → answer ≡ 0
+      → (ls : Levels) (d : DesignTree) → Has t lattice IsLatticeFile ls → Has t design (IsWellFormedText ls) d → answer ≢ 6 → answer ≢ 7 → answer ≡ 0
   always exact ls d has is no_failure no_want = elim (exact done (inr (ls, has, inr (d, is, refl)))) [
     | inl zero ↦ zero
     | inr (inl six) ↦ absurd (no_failure six)
@@ -90,13 +88,13 @@ module _ (lattice design out : List ℕ) (t : Told) (ls : Levels) (source : List
   at_design e (inr (d, has, is)) =
       absurd (none d (subst (λ (bytes : List ℕ). IsWellFormedText ls bytes d) (some_unique (t.files design) has.bytes source has.file there) has.stands))
 
-  at_lattice : Has t lattice lattice_file ls → (e : Ending) → Cause (asks (compile lattice design out)) t e → 1 ≡ status_of e
+  at_lattice : Has t lattice IsLatticeFile ls → (e : Ending) → Cause (asks (compile lattice design out)) t e → 1 ≡ status_of e
   at_lattice has e (inl (why, ends, is)) = absurd (not_both lattice_file lattice_lawful t lattice ls why has is)
   at_lattice has e (inr (other, had, rest)) =
       let P : Levels → Type 0 = λ l. Cause (file design (design_file l) (λ d. writes out (IsModuleText l d))) t e in
       at_design e (subst P (one_value lattice_file lattice_lawful t lattice other ls had has) rest)
 
-  told : (answer : ℕ) → Has t lattice lattice_file ls → (e : Ending) × Cause (asks (compile lattice design out)) t e × (answer ≡ status_of e) → answer ≡ 1
+  told : (answer : ℕ) → Has t lattice IsLatticeFile ls → (e : Ending) × Cause (asks (compile lattice design out)) t e × (answer ≡ status_of e) → answer ≡ 1
   told answer has (e, cause, is) = is ∙ sym (at_lattice has e cause)
 
 headline : (words : List (List ℕ)) (lost now answer : ℕ) (t n : Told) → Answers words lost now answer t n → Exact words t answer → Headline words answer t n

@@ -15,7 +15,7 @@ use Rattle.sap_system.proofs.LinkAnswered.{none_where_kept}
 use Rattle.sap_linked.specs.Designs.{NamedDesign}
 use Rattle.sap_linker.specs.Given.{surroundings}
 use Rattle.sap_words.specs.Words.{Words, link}
-use Rattle.sap_files.specs.Prelude.{Ending, Refusal, done, refused, wires_refused, status_of, line_of, Has, IsWellFormedText, lattice_file, Asks, file, Cause, Files, Leaves, Written}
+use Rattle.sap_files.specs.Prelude.{Ending, Refusal, done, refused, wires_refused, status_of, line_of, Has, IsLatticeFile, IsWellFormedText, lattice_file, Asks, file, Cause, Files, Leaves, Written}
 use Rattle.sap_files.proofs.Lattices.{lattice_lawful}
 use Rattle.sap_files.proofs.Modules.{one_module}
 use Rattle.sap_linking.specs.Kinds.{part_file, system_file}
@@ -42,8 +42,6 @@ means ls designs wires text (net, is, linked, small) = record {
   composites = linked.is_module.composites;
   agree = linked.is_module.agree;
   look_alike = linked.is_module.look_alike;
-  tidy = linked.is_module.tidy;
-  small = small;
 }
 
 -- ---- a cause, part by part
@@ -52,18 +50,18 @@ abbrev under : Part → DesignTree → NamedDesign
 under p d = record { name = p.name; design = d }
 
 -- what is asked behind the file of a part
-abbrev behind_part : Levels → Part → List Part → (List NamedDesign → Asks) → DesignTree → Asks
+abbrev pub behind_part : Levels → Part → List Part → (List NamedDesign → Asks) → DesignTree → Asks
 behind_part ls p ps rest d = asks_parts ls ps (λ designs. rest (under p d ∷ designs))
 
 module _ (t : Told) (ls : Levels) where
-  as_part : (p : Part) (d : NamedDesign) → HasDesign ls t p d → Has t p.file (part_file ls p.name) d.design
+  pub as_part : (p : Part) (d : NamedDesign) → HasDesign ls t p d → Has t p.file (IsWellFormedText ls) d.design
   as_part p d is = record { bytes = is.has.bytes; file = is.has.file; stands = is.has.stands }
 
-  as_design : (p : Part) (d : DesignTree) → Has t p.file (part_file ls p.name) d → HasDesign ls t p (under p d)
+  as_design : (p : Part) (d : DesignTree) → Has t p.file (IsWellFormedText ls) d → HasDesign ls t p (under p d)
   as_design p d has = record { name = refl; has = record { bytes = has.bytes; file = has.file; stands = has.stands } }
 
   -- a design that has the part's name is one under it
-  renamed : (P : NamedDesign → Type 0) (p : Part) (d : NamedDesign) → d.name ≡ p.name → P (under p d.design) → P d
+  pub renamed : (P : NamedDesign → Type 0) (p : Part) (d : NamedDesign) → d.name ≡ p.name → P (under p d.design) → P d
   renamed P p d is = subst (λ (name : List ℕ). P (record { name = name; design = d.design })) (sym is)
 
   named_by : (P : NamedDesign → Type 0) (p : Part) (d : NamedDesign) → d.name ≡ p.name → P d → P (under p d.design)
@@ -124,10 +122,10 @@ module _ (lattice system out : List ℕ) (answer : ℕ) (t n : Told) where
   abbrev IsCaused : Ending → Type 0
   IsCaused e = Cause (asks (link lattice system out)) t e
 
-  past_lattice : (ls : Levels) (e : Ending) → Has t lattice lattice_file ls → IsCaused e → Cause (behind_lattice ls) t e
+  past_lattice : (ls : Levels) (e : Ending) → Has t lattice IsLatticeFile ls → IsCaused e → Cause (behind_lattice ls) t e
   past_lattice ls e has cause = past_file t lattice lattice_file behind_lattice e lattice_lawful ls has cause
 
-  past_system : (ls : Levels) (s : Listing) (e : Ending) → Has t lattice lattice_file ls → Has t system system_file s → IsCaused e → Cause (behind_system ls s) t e
+  past_system : (ls : Levels) (s : Listing) (e : Ending) → Has t lattice IsLatticeFile ls → Has t system IsSystemOfFile s → IsCaused e → Cause (behind_system ls s) t e
   past_system ls s e has is cause = past_file t system system_file (behind_system ls) e system_lawful s is (past_lattice ls e has cause)
 
   -- where the files are such, what causes an ending behind them does
@@ -136,7 +134,7 @@ module _ (lattice system out : List ℕ) (answer : ℕ) (t n : Told) where
   caused ls s designs e are cause = inr (ls, are.levels, inr (s, are.lists, caused_behind t ls s.parts designs (asks_wired ls s.wires out) e are.parts cause))
 
   -- where it is done the wires break no rule
-  no_fault : (ls : Levels) (s : Listing) (designs : List NamedDesign) (fault : LinkFault) → AreForLink lattice system t ls s designs
+  pub no_fault : (ls : Levels) (s : Listing) (designs : List NamedDesign) (fault : LinkFault) → AreForLink lattice system t ls s designs
       → FirstLinkFault (surroundings ls designs) s.wires fault → IsCaused done → ⊥
   no_fault ls s designs fault are first cause =
       of_verdict (past_parts t ls s.parts designs (asks_wired ls s.wires out) done are.parts (past_system ls s done are.levels are.lists cause))
@@ -172,7 +170,7 @@ module _ (lattice system out : List ℕ) (answer : ℕ) (t n : Told) where
       → answer ≢ 6 → answer ≢ 7 → answer ≡ 0
   always exact ls s designs are keeps = zero_of answer (exact done (caused ls s designs done are (None, keeps, refl)))
 
-  no_system : (e : Ending) × IsCaused e × (answer ≡ status_of e) → (ls : Levels) (bytes : List ℕ) → Has t lattice lattice_file ls → t.files system ≡ Some bytes
+  no_system : (e : Ending) × IsCaused e × (answer ≡ status_of e) → (ls : Levels) (bytes : List ℕ) → Has t lattice IsLatticeFile ls → t.files system ≡ Some bytes
       → ((s : Listing) → ¬ (IsSystemOfFile bytes s)) → answer ≡ 9
   no_system (e, cause, is) ls bytes has there none =
       let r = refused_at t system system_file (behind_system ls) e bytes there none (past_lattice ls e has cause) in

@@ -19,7 +19,7 @@ use Rattle.sap_cpu.specs.Ends.{EndsAsPrinted}
 use Rattle.sap_cpu.proofs.Canonical.{machine_read, read_is_machine}
 use Rattle.sap_cpu.proofs.Ends.{runs_end_as_printed}
 use Rattle.sap_words.specs.Words.{Words, command_of, run, machine, asm, cpu}
-use Rattle.sap_files.specs.Prelude.{Ending, done, refused, asm_refused, line, status_of, line_of, end_of, Cause, Has, Output, Shows, asks_programs, design_file, lattice_file}
+use Rattle.sap_files.specs.Prelude.{Ending, done, refused, asm_refused, line, status_of, line_of, end_of, Cause, Has, IsWellFormedText, Output, Shows, asks_programs, lattice_file}
 use Rattle.sap_commands.specs.Commands.{asks, asks_for, asks_if}
 use Rattle.sap_commands.proofs.CommandLaws.{one_cause_lem}
 use Rattle.sap_files.proofs.Lattices.{lattice_lawful}
@@ -107,7 +107,7 @@ module _ (lattice design stimulus : List ℕ) (t : Told) (x y : List ℕ) (slice
   run_done : Cause (asks (run lattice design stimulus)) t done
   run_done =
       let (d, is_text, formed, same) = machine_read in
-      let is : Has t design (design_file diamond) d = record {
+      let is : Has t design (IsWellFormedText diamond) d = record {
         bytes = canonical_text machine_design;
         file = given.machine;
         stands = record { is_text = subst (λ (b : List ℕ). IsText b d) (sym text_is) is_text; well_formed = formed };

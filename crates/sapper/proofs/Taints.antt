@@ -9,7 +9,7 @@ use Rattle.sap_vtext.specs.Modules.{IsModule}
 use Rattle.sap_taint.specs.TagNames.{IsClash, HasRoomForTags}
 use Rattle.sap_taint_pass.specs.declared.fault.TaintFault.TheVariants.{Clash}
 use Rattle.sap_words.specs.Words.{Words, taint}
-use Rattle.sap_files.specs.Prelude.{Ending, Refusal, done, refused, taint_refused, status_of, line_of, Has, lattice_file, module_file, Asks, file, by, Cause, Files, Leaves, Written, FirstClash, IsTaintedText, tagged_or_refused}
+use Rattle.sap_files.specs.Prelude.{Ending, Refusal, done, refused, taint_refused, status_of, line_of, Has, IsLatticeFile, lattice_file, module_file, Asks, file, by, Cause, Files, Leaves, Written, FirstClash, IsTaintedText, tagged_or_refused}
 use Rattle.sap_files.proofs.Lattices.{lattice_lawful}
 use Rattle.sap_files.proofs.Modules.{module_lawful, one_module}
 use Rattle.sap_taint.proofs.Clashes.{no_clash_with_room}
@@ -40,7 +40,7 @@ module _ (lattice verilog out : List ℕ) (answer : ℕ) (t n : Told) where
   IsCaused e = Cause (asks (taint lattice verilog out)) t e
 
   -- where it is done no name clashes
-  no_clash : (ls : Levels) (net : Net) → Has t lattice lattice_file ls → Has t verilog module_file net → IsCaused done → (x : List ℕ) → IsClash net x → ⊥
+  no_clash : (ls : Levels) (net : Net) → Has t lattice IsLatticeFile ls → Has t verilog IsModule net → IsCaused done → (x : List ℕ) → IsClash net x → ⊥
   no_clash ls net has had cause x clash =
       let behind : Cause (behind_lattice ls) t done = past_file t lattice lattice_file behind_lattice done lattice_lawful ls has cause in
       of_verdict (past_file t verilog module_file (behind_module ls) done module_lawful net had behind)
@@ -51,7 +51,7 @@ module _ (lattice verilog out : List ℕ) (answer : ℕ) (t n : Told) where
 
   abbrev Done : Type 0
   Done =
-      (ls : Levels) × (net : Net) × Has t lattice lattice_file ls × Has t verilog module_file net × HasRoomForTags net
+      (ls : Levels) × (net : Net) × Has t lattice IsLatticeFile ls × Has t verilog IsModule net × HasRoomForTags net
       × ((text : List ℕ) × (n.files out ≡ Some text) × TellsTaint ls net text)
 
   written : IsCaused done → Written (asks (taint lattice verilog out)) t n.files → Done
@@ -66,17 +66,17 @@ module _ (lattice verilog out : List ℕ) (answer : ℕ) (t n : Told) where
   )
 
   always : ((e : Ending) → IsCaused e → (answer ≡ status_of e) ⊎ ((answer ≡ 6) ⊎ (answer ≡ 7)))
-      → (ls : Levels) (net : Net) → Has t lattice lattice_file ls → Has t verilog module_file net → HasRoomForTags net → answer ≢ 6 → answer ≢ 7 → answer ≡ 0
+      → (ls : Levels) (net : Net) → Has t lattice IsLatticeFile ls → Has t verilog IsModule net → HasRoomForTags net → answer ≢ 6 → answer ≢ 7 → answer ≡ 0
   always exact ls net has had room = zero_of answer (exact done (inr (ls, has, inr (net, had, (None, room, refl)))))
 
-  no_module : (e : Ending) × IsCaused e × (answer ≡ status_of e) → (ls : Levels) (text : List ℕ) → Has t lattice lattice_file ls → t.files verilog ≡ Some text
+  no_module : (e : Ending) × IsCaused e × (answer ≡ status_of e) → (ls : Levels) (text : List ℕ) → Has t lattice IsLatticeFile ls → t.files verilog ≡ Some text
       → ((net : Net) → ¬ (IsModule text net)) → answer ≡ 5
   no_module (e, cause, is) ls text has there none =
       let behind : Cause (behind_lattice ls) t e = past_file t lattice lattice_file behind_lattice e lattice_lawful ls has cause in
       let r = refused_at t verilog module_file (behind_module ls) e text there none behind in
       is ∙ ap status_of r.1 ∙ ap (λ (w : Refusal). status_of (refused w)) r.2.1
 
-  clash_caused : (ls : Levels) (net : Net) (x : List ℕ) → Has t lattice lattice_file ls → Has t verilog module_file net → IsClash net x
+  clash_caused : (ls : Levels) (net : Net) (x : List ℕ) → Has t lattice IsLatticeFile ls → Has t verilog IsModule net → IsClash net x
       → IsCaused (refused (taint_refused (Clash x)))
   clash_caused ls net x has had clash = inr (ls, has, inr (net, had, (Some x, clash, refl)))
 

@@ -19,7 +19,7 @@ use Rattle.sap_wave_rows.specs.Rows.{rows_of_wave}
 use Rattle.sap_wave_rows.proofs.RowsOfRuns.{rows_of_runs}
 use Rattle.sap_wave_run.specs.Dumped.{IsDumpOn}
 use Rattle.sap_words.specs.Words.{Words, wave, unwave}
-use Rattle.sap_files.specs.Prelude.{Ending, Refusal, done, refused, wave_refused, status_of, line_of, Kind, Has, IsLawful, lattice_file, module_file, module_stream_file, wave_file, Asks, file, gives, writes, Cause, Files, Leaves, Output, Shows, Written, AreModuleRows}
+use Rattle.sap_files.specs.Prelude.{Ending, Refusal, done, refused, wave_refused, status_of, line_of, Kind, Has, IsLatticeFile, IsLawful, IsModuleStream, lattice_file, module_file, module_stream_file, wave_file, Asks, file, gives, writes, Cause, Files, Leaves, Output, Shows, Written, AreModuleRows}
 use Rattle.sap_commands.specs.Commands.{asks, asks_for, asks_if}
 use Rattle.sap_files.proofs.Lattices.{lattice_lawful}
 use Rattle.sap_files.proofs.Lawful.{not_both, one_value}
@@ -34,7 +34,7 @@ use Rattle.sapper.proofs.Headline.{by_cause, done_alone}
 
 module _ (t : Told) (name : List ℕ) (k : Kind) (rest : k.Value → Asks) (e : Ending) where
   -- behind a file that stands for a value
-  pub past_file : IsLawful k → (v : k.Value) → Has t name k v → Cause (file name k rest) t e → Cause (rest v) t e
+  pub past_file : IsLawful k → (v : k.Value) → Has t name k.Stands v → Cause (file name k rest) t e → Cause (rest v) t e
   past_file law v has (inl (why, ends, is)) = absurd (not_both k law t name v why has is)
   past_file law v has (inr (w, had, cause)) =
       let P : k.Value → Type 0 = λ x. Cause (rest x) t e in
@@ -94,15 +94,15 @@ module _ (lattice verilog stimulus out : List ℕ) (answer : ℕ) (t n : Told) w
       → (ls : Levels) (net : Net) (stream : List (List Tagged)) → AreForRun lattice verilog stimulus t ls net stream → answer ≢ 6 → answer ≢ 7 → answer ≡ 0
   always exact ls net stream are = zero_of answer (exact done (inr (ls, are.levels, inr (net, are.is_module, inr (stream, are.lines, refl)))))
 
-  no_module : (e : Ending) × IsCaused e × (answer ≡ status_of e) → (ls : Levels) (text : List ℕ) → Has t lattice lattice_file ls → t.files verilog ≡ Some text
+  no_module : (e : Ending) × IsCaused e × (answer ≡ status_of e) → (ls : Levels) (text : List ℕ) → Has t lattice IsLatticeFile ls → t.files verilog ≡ Some text
       → ((net : Net) → ¬ (IsModule text net)) → answer ≡ 5
   no_module (e, cause, is) ls text has there none =
       let behind : Cause (behind_lattice ls) t e = past_file t lattice lattice_file behind_lattice e lattice_lawful ls has cause in
       let r = refused_at t verilog module_file (behind_module ls) e text there none behind in
       is ∙ ap status_of r.1 ∙ ap (λ (w : Refusal). status_of (refused w)) r.2.1
 
-  no_stimulus : (e : Ending) × IsCaused e × (answer ≡ status_of e) → (ls : Levels) (net : Net) (bytes : List ℕ) → Has t lattice lattice_file ls → Has t verilog module_file net
-      → t.files stimulus ≡ Some bytes → ((stream : List (List Tagged)) → ¬ ((module_stream_file ls net).Stands bytes stream)) → answer ≡ 4
+  no_stimulus : (e : Ending) × IsCaused e × (answer ≡ status_of e) → (ls : Levels) (net : Net) (bytes : List ℕ) → Has t lattice IsLatticeFile ls → Has t verilog IsModule net
+      → t.files stimulus ≡ Some bytes → ((stream : List (List Tagged)) → ¬ (IsModuleStream ls net bytes stream)) → answer ≡ 4
   no_stimulus (e, cause, is) ls net bytes has had there none =
       let behind : Cause (behind_lattice ls) t e = past_file t lattice lattice_file behind_lattice e lattice_lawful ls has cause in
       let further : Cause (behind_module ls net) t e = past_file t verilog module_file (behind_module ls) e module_lawful net had behind in
@@ -132,13 +132,13 @@ module _ (lattice dump : List ℕ) (t : Told) where
   rows_asked ls = file dump wave_file (λ wave. gives (λ text. text ≡ rows_of_wave ls wave))
 
   shown : (gained : List ℕ) → Shows (asks (unwave lattice dump)) t done gained
-      → (ls : Levels) × (w : Wave) × Has t lattice lattice_file ls × Has t dump wave_file w × (gained ≡ rows_of_wave ls w)
+      → (ls : Levels) × (w : Wave) × Has t lattice IsLatticeFile ls × Has t dump IsReading w × (gained ≡ rows_of_wave ls w)
   shown gained (inl ((why, is, at), none)) = absurd (cc)
   shown gained (inr (ls, has, inl ((why, is, at), none))) = absurd (cc)
   shown gained (inr (ls, has, inr (w, had, (is, text)))) = (ls, w, has, had, text)
 
   -- the first fault, and the status and the line that tell it
-  first_fault : (e : Ending) → Cause (asks (unwave lattice dump)) t e → (ls : Levels) (bytes : List ℕ) → Has t lattice lattice_file ls → t.files dump ≡ Some bytes
+  first_fault : (e : Ending) → Cause (asks (unwave lattice dump)) t e → (ls : Levels) (bytes : List ℕ) → Has t lattice IsLatticeFile ls → t.files dump ≡ Some bytes
       → ((w : Wave) → ¬ (IsReading bytes w)) → (line : ℕ) × (code : WaveCode) × IsFault bytes line code × (e ≡ refused (wave_refused (Rule code line)))
   first_fault e cause ls bytes has there none =
       let behind : Cause (rows_asked ls) t e = past_file t lattice lattice_file rows_asked e lattice_lawful ls has cause in
@@ -152,7 +152,7 @@ module _ (lattice dump : List ℕ) (t : Told) where
 
 -- what is read of the dump of a run has the rows that `sim` writes
 module _ (ls other : Levels) (net : Net) (bytes text : List ℕ) (stream : List (List Tagged)) (w : Wave) (same : other ≡ ls) (reads : IsReading text w)
-    (stands : (module_stream_file ls net).Stands bytes stream) (told : TellsRun ls net stream text) where
+    (stands : IsModuleStream ls net bytes stream) (told : TellsRun ls net stream text) where
   rows_back : AreModuleRows ls net bytes (rows_of_wave other w)
   rows_back = (
     None,

@@ -17,12 +17,9 @@ use Rattle.sap_interface.specs.Designs.{named_of, site_count_of, StartsAsDesign}
 use Rattle.sap_interface.specs.Interface.{HasInterface}
 use Rattle.sap_interface.specs.StandsFor.{world}
 use Rattle.sap_compile.specs.Agree.{RunsAgree, RunsLookAlike}
-use Rattle.sap_size.specs.Items.{IsSmall}
-use Rattle.sap_trim.specs.Names.{port_names}
-use Rattle.sap_compile.specs.Tidy.{IsTidy}
 use Rattle.sap_compile.specs.Runs.{HasOneRunOnStreams}
 use Rattle.sap_words.specs.Words.{command_of, compile}
-use Rattle.sap_files.specs.Kinds.{Has, IsWellFormedText, lattice_file, design_file}
+use Rattle.sap_files.specs.Contents.{Has, IsLatticeFile, IsWellFormedText}
 
 -- In every cycle of each run of a netlist on a stream of tagged inputs, levels being given as codes, it has the values, tags, active states and refused
 -- writes of the same cycle of the design's labelled run.
@@ -32,8 +29,7 @@ MeansInEveryCycle ls d net =
     → (vs : List Valuation) → IsRun net (coded_stream (named_of ls d).code stream) vs
     → CyclesStand (named_of ls d) (site_count_of d) (map (observed net) vs) (labelled_run (named_of ls d).program stream)
 
--- A text is the one module that means what a design does: cycle for cycle, with runs that agree where streams do, without needless wires, and
--- within a bound on its size.
+-- A text is the one module that means what a design does: cycle for cycle, with runs that agree where streams do.
 pub record MeansDesign (ls : Levels) (d : DesignTree) (text : List ℕ) : Type 0 where
   pub net : Net
   -- by the grammar of modules the text is this module, and no other
@@ -49,22 +45,17 @@ pub record MeansDesign (ls : Levels) (d : DesignTree) (text : List ℕ) : Type 0
   -- on streams that agree at or below a level the runs agree there in every cycle, in states and refusals and in plain numbers
   pub agree : RunsAgree ls d net
   pub look_alike : RunsLookAlike ls d net
-  -- each helping wire is read, no two are alike, none is a copy, and no rule for a right side by itself makes one simpler; and each wire that is a port, so each
-  -- of the two of a check site, is a copy
-  pub tidy : IsTidy (port_names net) net
-  -- it is small
-  pub small : IsSmall ls d net
 
 -- of the answer of a `compile` and the desk before and after it
 pub record CompilesExactly (lattice design out : List ℕ) (answer : ℕ) (t n : Told) : Type 0 where
   -- where it is done the design is well formed over the lattice, and what is written means it
   pub only : answer ≡ 0
-      → (ls : Levels) × (d : DesignTree) × Has t lattice lattice_file ls × Has t design (design_file ls) d
+      → (ls : Levels) × (d : DesignTree) × Has t lattice IsLatticeFile ls × Has t design (IsWellFormedText ls) d
       × ((text : List ℕ) × (n.files out ≡ Some text) × MeansDesign ls d text)
   -- where the design is well formed it is done, but for a failed call on the desk (6) and want of memory (7)
-  pub always : (ls : Levels) (d : DesignTree) → Has t lattice lattice_file ls → Has t design (design_file ls) d → answer ≢ 6 → answer ≢ 7 → answer ≡ 0
+  pub always : (ls : Levels) (d : DesignTree) → Has t lattice IsLatticeFile ls → Has t design (IsWellFormedText ls) d → answer ≢ 6 → answer ≢ 7 → answer ≡ 0
   -- where no design that its bytes are is well formed it is refused as a design (1), but for these two
-  pub refuses : (ls : Levels) (source : List ℕ) → Has t lattice lattice_file ls → t.files design ≡ Some source
+  pub refuses : (ls : Levels) (source : List ℕ) → Has t lattice IsLatticeFile ls → t.files design ≡ Some source
       → ((d : DesignTree) → ¬ (IsWellFormedText ls source d)) → answer ≢ 6 → answer ≢ 7 → answer ≡ 1
 
 -- The words are those of a `compile`.

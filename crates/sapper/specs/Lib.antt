@@ -2,6 +2,7 @@ pub mod Answers
 pub mod Exact
 pub mod Headline
 pub mod Links
+pub mod Tidy
 pub mod Taints
 pub mod Waves
 pub mod Machines

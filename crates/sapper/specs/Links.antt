@@ -1,39 +1,36 @@
 -- Linked designs. A `link` is done exactly when the system breaks no rule and the design of each of its parts is well formed; the module written, read by its
 -- grammar and clocked on any tagged input stream, has in every cycle what the composite run has, part by part; and for two streams that agree at or below a
 -- level, the module's runs agree there in every cycle, timing included.
-use Rattle.std.specs.Prelude.{◌≡◌, ◌≢◌, ℕ, List, ◌++◌, ◌∷◌, length, Some}
+use Rattle.std.specs.Prelude.{◌≡◌, ◌≢◌, ℕ, List, ◌++◌, ◌∷◌, codes, Some}
 use Rattle.std.specs.List.{AllZip}
+use Rattle.sap_text.specs.Places.{line}
 use Rattle.sap_desk.specs.Desk.{Told}
 use Rattle.sap_desk.specs.Whole.{Gained}
 use Rattle.sap_lattice.specs.Levels.{Levels}
 use Rattle.sap_tree.specs.Syntax.{DesignTree}
 use Rattle.sap_net.specs.Net.{Net}
 use Rattle.sap_vtext.specs.Modules.{IsModule}
+use Rattle.sap_system.specs.FaultTexts.{wire_text}
 use Rattle.sap_system.specs.Listing.{Listing}
 use Rattle.sap_system.specs.SystemFile.{IsSystemOfFile}
 use Rattle.sap_system.specs.Wires.{FirstLinkFault, KeepsWires}
 use Rattle.sap_system.specs.declared.file.Part.{Part}
 use Rattle.sap_system.specs.declared.file.WireText.{WireText}
 use Rattle.sap_system.specs.declared.link_fault.LinkFault.{LinkFault}
-use Rattle.sap_compile.specs.Tidy.{IsTidy}
 use Rattle.sap_link.specs.Systems.{Wire}
 use Rattle.sap_link.specs.Agree.{RunsOfStreamsAgree}
 use Rattle.sap_linked.specs.Parts.{system_of}
-use Rattle.sap_linked.specs.Netlist.{shown_names}
 use Rattle.sap_linked.specs.Designs.{NamedDesign, named_system}
 use Rattle.sap_linked.specs.Standing.{NetStandsForSystem}
 use Rattle.sap_linked_small.specs.Laws.{NetStartsAsSystem}
 use Rattle.sap_linked_agree.specs.Agree.{SystemRunsAgree, SystemRunsLookAlike, SystemHasOneRun}
 use Rattle.sap_wiring.specs.Wiring.{AreWiresOf}
 use Rattle.sap_linker.specs.Given.{surroundings}
-use Rattle.sap_linker.specs.Sizes.{IsSmallSystem}
 use Rattle.sap_words.specs.Words.{command_of, link}
-use Rattle.sap_files.specs.Ending.{line_of, refused, wires_refused}
-use Rattle.sap_files.specs.Kinds.{Has, IsWellFormedText, lattice_file, design_file}
-use Rattle.sap_linking.specs.Kinds.{system_file}
+use Rattle.sap_files.specs.Contents.{Has, IsLatticeFile, IsWellFormedText}
 
 -- A text is the one module that means what designs do that are linked by the wires that texts stand for: cycle for cycle, with runs that agree where streams
--- do, without needless wires, and within a bound on its size.
+-- do.
 pub record MeansSystem (ls : Levels) (designs : List NamedDesign) (texts : List WireText) (text : List ℕ) : Type 0 where
   pub net : Net
   -- by the grammar of modules the text is this module, and no other
@@ -54,27 +51,22 @@ pub record MeansSystem (ls : Levels) (designs : List NamedDesign) (texts : List 
   -- and so do the module's runs, in states and refusals and in plain numbers
   pub agree : SystemRunsAgree (named_system ls designs wires) net
   pub look_alike : SystemRunsLookAlike (named_system ls designs wires) net
-  -- each helping wire is read, no two are alike, none is a copy, and no rule for a right side by itself makes one simpler; and each wire that is a port, or stands
-  -- for a fed input, is a copy
-  pub tidy : IsTidy (shown_names (named_system ls designs wires)) net
-  -- it is small
-  pub small : IsSmallSystem ls designs (length texts) net
 
 -- the file of a part has the bytes of a design that is well formed, and that has the part's name in the system
 pub record HasDesign (ls : Levels) (t : Told) (p : Part) (d : NamedDesign) : Type 0 where
   pub name : d.name ≡ p.name
-  pub has : Has t p.file (design_file ls) d.design
+  pub has : Has t p.file (IsWellFormedText ls) d.design
 
 -- the files of a `link` are a lattice, a system, and for each part a design that is well formed
 pub record AreForLink (lattice system : List ℕ) (t : Told) (ls : Levels) (s : Listing) (designs : List NamedDesign) : Type 0 where
-  pub levels : Has t lattice lattice_file ls
-  pub lists : Has t system system_file s
+  pub levels : Has t lattice IsLatticeFile ls
+  pub lists : Has t system IsSystemOfFile s
   pub parts : AllZip (HasDesign ls t) s.parts designs
 
 -- The part p has a file that isn't read as a design that is well formed; those before it have such designs.
 pub record HasNoDesign (lattice system : List ℕ) (t : Told) (ls : Levels) (s : Listing) (p : Part) : Type 0 where
-  pub levels : Has t lattice lattice_file ls
-  pub lists : Has t system system_file s
+  pub levels : Has t lattice IsLatticeFile ls
+  pub lists : Has t system IsSystemOfFile s
   pub before : List Part
   pub behind : List Part
   pub is_part : s.parts ≡ before ++ p ∷ behind
@@ -94,14 +86,14 @@ pub record LinksExactly (lattice system out : List ℕ) (lost lost_now answer : 
   pub always : (ls : Levels) (s : Listing) (designs : List NamedDesign) → AreForLink lattice system t ls s designs → KeepsWires (surroundings ls designs) s.wires
       → answer ≢ 6 → answer ≢ 7 → answer ≡ 0
   -- where SYSTEM is no system it is refused as one (9), but for these two
-  pub no_system : (ls : Levels) (bytes : List ℕ) → Has t lattice lattice_file ls → t.files system ≡ Some bytes → ((s : Listing) → ¬ IsSystemOfFile bytes s)
+  pub no_system : (ls : Levels) (bytes : List ℕ) → Has t lattice IsLatticeFile ls → t.files system ≡ Some bytes → ((s : Listing) → ¬ IsSystemOfFile bytes s)
       → answer ≢ 6 → answer ≢ 7 → answer ≡ 9
   -- where a part has a file that is no design that is well formed, it is refused as a design (1)
   pub no_design : (ls : Levels) (s : Listing) (p : Part) → HasNoDesign lattice system t ls s p → answer ≢ 6 → answer ≢ 7 → answer ≡ 1
   -- and where the wires break a rule it is refused as a system (9), and the line tells the first
   pub wires : (ls : Levels) (s : Listing) (designs : List NamedDesign) (fault : LinkFault) → AreForLink lattice system t ls s designs
       → FirstLinkFault (surroundings ls designs) s.wires fault → answer ≢ 6 → answer ≢ 7
-      → (answer ≡ 9) × Gained (line_of (refused (wires_refused fault))) lost lost_now t n
+      → (answer ≡ 9) × Gained (line (codes "system: " ++ wire_text fault)) lost lost_now t n
 
 -- The words are those of a `link`.
 abbrev pub Links : (words : List (List ℕ)) → (lost lost_now answer : ℕ) → Told → Told → Type 0

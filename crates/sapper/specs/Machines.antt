@@ -11,7 +11,7 @@ use Rattle.sap_machine.specs.Text.{asm_text, cpu_text}
 use Rattle.sap_cpu.specs.Ends.{EndsAsPrinted}
 use Rattle.sap_words.specs.Words.{command_of, run, machine, asm, cpu}
 use Rattle.sap_files.specs.Ending.{line}
-use Rattle.sap_files.specs.Kinds.{Has, lattice_file}
+use Rattle.sap_files.specs.Contents.{Has, IsLatticeFile}
 
 -- of the answer of a `machine` and the desk before and after it: but for a failed call on the desk (6) and want of memory (7) it is done
 pub record WritesMachine (answer : ℕ) (t n : Told) : Type 0 where
@@ -32,7 +32,7 @@ pub record GivesOfBoth (given : (x y : List ℕ) → Result (List ℕ) (List ℕ
 -- The files of a `run` are a lattice of the four levels, the design that `machine` writes, and the stimulus that `asm`
 -- writes of two texts for some slices.
 pub record AreForMachine (lattice design stimulus : List ℕ) (t : Told) (x y : List ℕ) (slices : ℕ) : Type 0 where
-  pub levels : Has t lattice lattice_file diamond
+  pub levels : Has t lattice IsLatticeFile diamond
   pub machine : t.files design ≡ Some (canonical_text machine_design)
   pub text : List ℕ
   pub of_asm : asm_text x y slices ≡ Ok text

@@ -1,16 +1,17 @@
 -- Taint. A `taint` writes a module with a tag for each name: clocked on any numbers and tags, names have in it the numbers of the given module's run, and tags the
 -- taint of that run; and on streams that agree at or below a level its runs agree there in every cycle.
-use Rattle.std.specs.Prelude.{◌≡◌, ◌≢◌, ℕ, List, Some}
+use Rattle.std.specs.Prelude.{◌≡◌, ◌≢◌, ℕ, List, ◌++◌, codes, Some}
+use Rattle.sap_text.specs.Places.{line}
 use Rattle.sap_desk.specs.Desk.{Told}
 use Rattle.sap_desk.specs.Whole.{Gained}
 use Rattle.sap_lattice.specs.Levels.{Levels, order_of}
 use Rattle.sap_net.specs.Net.{Net}
 use Rattle.sap_vtext.specs.Modules.{IsModule}
 use Rattle.sap_taint.specs.TagNames.{IsClash, HasRoomForTags}
+use Rattle.sap_taint_pass.specs.FaultTexts.{taint_text}
 use Rattle.sap_taint_pass.specs.declared.fault.TaintFault.TheVariants.{Clash}
 use Rattle.sap_words.specs.Words.{command_of, taint}
-use Rattle.sap_files.specs.Ending.{line_of, refused, taint_refused}
-use Rattle.sap_files.specs.Kinds.{Has, lattice_file, module_file}
+use Rattle.sap_files.specs.Contents.{Has, IsLatticeFile}
 use Rattle.sap_files.specs.Tainting.{HasTaintOf}
 
 -- A text is the one module of a netlist with tags.
@@ -26,16 +27,16 @@ pub record TellsTaint (ls : Levels) (net : Net) (text : List ℕ) : Type 0 where
 pub record TaintsExactly (lattice verilog out : List ℕ) (lost lost_now answer : ℕ) (t n : Told) : Type 0 where
   -- where it is done the files are a lattice and a module in which each tag has a name of its own, and what is written is the module with tags
   pub only : answer ≡ 0
-      → (ls : Levels) × (net : Net) × Has t lattice lattice_file ls × Has t verilog module_file net × HasRoomForTags net
+      → (ls : Levels) × (net : Net) × Has t lattice IsLatticeFile ls × Has t verilog IsModule net × HasRoomForTags net
       × ((text : List ℕ) × (n.files out ≡ Some text) × TellsTaint ls net text)
   -- where they are so it is done, but for a failed call on the desk (6) and want of memory (7)
-  pub always : (ls : Levels) (net : Net) → Has t lattice lattice_file ls → Has t verilog module_file net → HasRoomForTags net → answer ≢ 6 → answer ≢ 7 → answer ≡ 0
+  pub always : (ls : Levels) (net : Net) → Has t lattice IsLatticeFile ls → Has t verilog IsModule net → HasRoomForTags net → answer ≢ 6 → answer ≢ 7 → answer ≡ 0
   -- where VERILOG is no module it is refused as one (5), but for these two
-  pub no_module : (ls : Levels) (text : List ℕ) → Has t lattice lattice_file ls → t.files verilog ≡ Some text → ((net : Net) → ¬ (IsModule text net))
+  pub no_module : (ls : Levels) (text : List ℕ) → Has t lattice IsLatticeFile ls → t.files verilog ≡ Some text → ((net : Net) → ¬ (IsModule text net))
       → answer ≢ 6 → answer ≢ 7 → answer ≡ 5
   -- and where it is one with a name whose tag has none of its own it is refused too (5), and the line tells the first such name
-  pub clashes : (ls : Levels) (net : Net) (x : List ℕ) → Has t lattice lattice_file ls → Has t verilog module_file net → IsClash net x → answer ≢ 6 → answer ≢ 7
-      → (answer ≡ 5) × Gained (line_of (refused (taint_refused (Clash x)))) lost lost_now t n
+  pub clashes : (ls : Levels) (net : Net) (x : List ℕ) → Has t lattice IsLatticeFile ls → Has t verilog IsModule net → IsClash net x → answer ≢ 6 → answer ≢ 7
+      → (answer ≡ 5) × Gained (line (codes "module: " ++ taint_text (Clash x))) lost lost_now t n
 
 -- The words are those of a `taint`.
 abbrev pub Taints : (words : List (List ℕ)) → (lost lost_now answer : ℕ) → Told → Told → Type 0

@@ -1,6 +1,7 @@
 -- Waves. A `wave` writes a text that has exactly one reading, and that is the numbers of the module's run on the stimulus, first the initial ones. An `unwave`
 -- writes the rows of the one reading of a dump; of the dump of a module's run they are what `sim` writes of the same stimulus.
-use Rattle.std.specs.Prelude.{◌≡◌, ◌≢◌, ℕ, List, ◌++◌, Some}
+use Rattle.std.specs.Prelude.{◌≡◌, ◌≢◌, ℕ, List, ◌++◌, codes, Some}
+use Rattle.sap_text.specs.Places.{line}
 use Rattle.sap_desk.specs.Desk.{Told}
 use Rattle.sap_desk.specs.Whole.{Gained}
 use Rattle.sap_lattice.specs.Levels.{Levels}
@@ -13,14 +14,14 @@ use Rattle.sap_sim.specs.Stepped.{IsRunOn}
 use Rattle.sap_wave.specs.declared.fault.WaveCode.{WaveCode}
 use Rattle.sap_wave.specs.declared.fault.WaveFault.TheVariants.{Rule}
 use Rattle.sap_wave.specs.Dumps.{IsReading}
+use Rattle.sap_wave.specs.FaultTexts.{wave_text}
 use Rattle.sap_wave.specs.Faults.{IsFault}
 use Rattle.sap_wave.specs.Runs.{run_wave}
 use Rattle.sap_wave.specs.Waves.{Wave}
 use Rattle.sap_wave_rows.specs.Rows.{rows_of_wave}
 use Rattle.sap_words.specs.Words.{command_of, wave, unwave}
-use Rattle.sap_files.specs.Ending.{line_of, refused, wave_refused}
-use Rattle.sap_files.specs.Kinds.{Has, lattice_file, module_file, module_stream_file, wave_file}
-use Rattle.sap_files.specs.StimulusTexts.{AreModuleRows}
+use Rattle.sap_files.specs.Contents.{Has, IsLatticeFile}
+use Rattle.sap_files.specs.StimulusTexts.{AreModuleRows, IsModuleStream}
 
 -- A text tells a module's run on a stream: by the grammar of dumps it is read as the numbers of the run, first the initial ones, and as nothing else.
 pub record TellsRun (ls : Levels) (net : Net) (stream : List (List Tagged)) (text : List ℕ) : Type 0 where
@@ -31,9 +32,9 @@ pub record TellsRun (ls : Levels) (net : Net) (stream : List (List Tagged)) (tex
 
 -- the three files of a `wave` are a lattice, a module, and a stimulus for it whose every line is taken
 pub record AreForRun (lattice verilog stimulus : List ℕ) (t : Told) (ls : Levels) (net : Net) (stream : List (List Tagged)) : Type 0 where
-  pub levels : Has t lattice lattice_file ls
-  pub is_module : Has t verilog module_file net
-  pub lines : Has t stimulus (module_stream_file ls net) stream
+  pub levels : Has t lattice IsLatticeFile ls
+  pub is_module : Has t verilog IsModule net
+  pub lines : Has t stimulus (IsModuleStream ls net) stream
 
 -- of the answer of a `wave` and the desk before and after it
 pub record WavesExactly (lattice verilog stimulus out : List ℕ) (answer : ℕ) (t n : Told) : Type 0 where
@@ -44,27 +45,27 @@ pub record WavesExactly (lattice verilog stimulus out : List ℕ) (answer : ℕ)
   -- where they are such it is done, but for a failed call on the desk (6) and want of memory (7)
   pub always : (ls : Levels) (net : Net) (stream : List (List Tagged)) → AreForRun lattice verilog stimulus t ls net stream → answer ≢ 6 → answer ≢ 7 → answer ≡ 0
   -- where VERILOG is no module it is refused as one (5), but for these two
-  pub no_module : (ls : Levels) (text : List ℕ) → Has t lattice lattice_file ls → t.files verilog ≡ Some text → ((net : Net) → ¬ (IsModule text net))
+  pub no_module : (ls : Levels) (text : List ℕ) → Has t lattice IsLatticeFile ls → t.files verilog ≡ Some text → ((net : Net) → ¬ (IsModule text net))
       → answer ≢ 6 → answer ≢ 7 → answer ≡ 5
   -- and where a line of STIM is refused as a stimulus (4)
-  pub no_stimulus : (ls : Levels) (net : Net) (bytes : List ℕ) → Has t lattice lattice_file ls → Has t verilog module_file net → t.files stimulus ≡ Some bytes
-      → ((stream : List (List Tagged)) → ¬ ((module_stream_file ls net).Stands bytes stream)) → answer ≢ 6 → answer ≢ 7 → answer ≡ 4
+  pub no_stimulus : (ls : Levels) (net : Net) (bytes : List ℕ) → Has t lattice IsLatticeFile ls → Has t verilog IsModule net → t.files stimulus ≡ Some bytes
+      → ((stream : List (List Tagged)) → ¬ (IsModuleStream ls net bytes stream)) → answer ≢ 6 → answer ≢ 7 → answer ≡ 4
 
 -- of the answer of an `unwave` and the desk before and after it
 pub record UnwavesExactly (lattice dump : List ℕ) (lost lost_now answer : ℕ) (t n : Told) : Type 0 where
   -- where it is done WAVE has a reading, of which channel 1 gained the rows
   pub only : answer ≡ 0
-      → (ls : Levels) × (w : Wave) × Has t lattice lattice_file ls × Has t dump wave_file w × (n.written 1 ≡ t.written 1 ++ rows_of_wave ls w)
+      → (ls : Levels) × (w : Wave) × Has t lattice IsLatticeFile ls × Has t dump IsReading w × (n.written 1 ≡ t.written 1 ++ rows_of_wave ls w)
   -- where it has one it is done, but for a failed call on the desk (6) and want of memory (7)
-  pub always : (ls : Levels) (w : Wave) → Has t lattice lattice_file ls → Has t dump wave_file w → answer ≢ 6 → answer ≢ 7 → answer ≡ 0
+  pub always : (ls : Levels) (w : Wave) → Has t lattice IsLatticeFile ls → Has t dump IsReading w → answer ≢ 6 → answer ≢ 7 → answer ≡ 0
   -- where it has none it is refused (10), and the line tells its first fault, but for these two
-  pub refuses : (ls : Levels) (bytes : List ℕ) → Has t lattice lattice_file ls → t.files dump ≡ Some bytes → ((w : Wave) → ¬ (IsReading bytes w))
+  pub refuses : (ls : Levels) (bytes : List ℕ) → Has t lattice IsLatticeFile ls → t.files dump ≡ Some bytes → ((w : Wave) → ¬ (IsReading bytes w))
       → answer ≢ 6 → answer ≢ 7
-      → (answer ≡ 10) × ((line : ℕ) × (code : WaveCode) × IsFault bytes line code × Gained (line_of (refused (wave_refused (Rule code line)))) lost lost_now t n)
+      → (answer ≡ 10) × ((number : ℕ) × (code : WaveCode) × IsFault bytes number code × Gained (line (codes "wave: " ++ wave_text (Rule code number))) lost lost_now t n)
   -- where WAVE tells a module's run on a stimulus, as what a `wave` wrote does, channel 1 gained what `sim` writes of them
   pub gives_back : answer ≡ 0
-      → (ls : Levels) (net : Net) (bytes text : List ℕ) (stream : List (List Tagged)) → Has t lattice lattice_file ls → t.files dump ≡ Some text
-      → (module_stream_file ls net).Stands bytes stream → TellsRun ls net stream text
+      → (ls : Levels) (net : Net) (bytes text : List ℕ) (stream : List (List Tagged)) → Has t lattice IsLatticeFile ls → t.files dump ≡ Some text
+      → IsModuleStream ls net bytes stream → TellsRun ls net stream text
       → (rows : List ℕ) × (n.written 1 ≡ t.written 1 ++ rows) × AreModuleRows ls net bytes rows
 
 -- The words are those of a `wave`.

@@ -14,6 +14,7 @@ ghost use Rattle.sapper.specs.Links.{Links};
 ghost use Rattle.sapper.specs.Machines.{Machines};
 ghost use Rattle.sapper.specs.Outside.{Outside, FullLines};
 ghost use Rattle.sapper.specs.Taints.{Taints};
+ghost use Rattle.sapper.specs.Tidy.{WritesWellMade};
 ghost use Rattle.sapper.specs.Waves.{Unwaves, Waves};
 ghost use Rattle.sap_files.specs.Steps.{Ends, ending, ending_of, reason, seen};
 
@@ -125,6 +126,7 @@ fn ask<'a, D: Desk>(
 pub fn sapper<D: Desk>(alloc: Global, words: &[String], desk: &mut D) -> u8
     ensures headline { Between (D.told desk.old) (D.told desk.new) (Headline (map string_bytes words.now) result) }
     ensures links { Between (D.told desk.old) (D.told desk.new) (Links (map string_bytes words.now) (D.lost desk.old) (D.lost desk.new) result) }
+    ensures tidy { Between (D.told desk.old) (D.told desk.new) (WritesWellMade (map string_bytes words.now) result) }
     ensures taints { Between (D.told desk.old) (D.told desk.new) (Taints (map string_bytes words.now) (D.lost desk.old) (D.lost desk.new) result) }
     ensures waves { Between (D.told desk.old) (D.told desk.new) (Waves (map string_bytes words.now) result) }
     ensures unwaves { Between (D.told desk.old) (D.told desk.new) (Unwaves (map string_bytes words.now) (D.lost desk.old) (D.lost desk.new) result) }
