@@ -1,6 +1,6 @@
--- The headline. A design compiles exactly when it is well formed; the module written, read by its grammar and clocked on any tagged input stream, has in
--- every cycle the values, tags, active states and refused writes of Sapper's labelled meaning; and for two streams that agree at or below a level, the
--- module's runs agree there in every cycle, timing included.
+-- The headline. A design compiles exactly when it is well formed. The module written, read by its grammar and clocked on
+-- any tagged input stream, has in every cycle the values, tags, active states and refused writes of Sapper's labelled
+-- meaning. For two streams that agree at or below a level, the module's runs agree there in every cycle, timing included.
 use Rattle.std.specs.Prelude.{◌≡◌, ◌≢◌, ℕ, List, map, Some}
 use Rattle.sap_desk.specs.Desk.{Told}
 use Rattle.sap_lattice.specs.Codes.{width_of}
@@ -21,44 +21,48 @@ use Rattle.sap_compile.specs.Runs.{HasOneRunOnStreams}
 use Rattle.sap_words.specs.Words.{command_of, compile}
 use Rattle.sap_files.specs.Contents.{Has, IsLatticeFile, IsWellFormedText}
 
--- In every cycle of each run of a netlist on a stream of tagged inputs, levels being given as codes, it has the values, tags, active states and refused
--- writes of the same cycle of the design's labelled run.
+-- In every cycle of each run of a netlist on a stream of tagged inputs, levels being given as codes, it has the values,
+-- tags, active states and refused writes of the same cycle of the design's labelled run.
 abbrev pub MeansInEveryCycle : Levels → DesignTree → Net → Type 0
 MeansInEveryCycle ls d net =
     (stream : List (List Tagged)) → StreamFits (world (named_of ls d)) stream
     → (vs : List Valuation) → IsRun net (coded_stream (named_of ls d).code stream) vs
-    → CyclesStand (named_of ls d) (site_count_of d) (map (observed net) vs) (labelled_run (named_of ls d).program stream)
+    → CyclesStand (named_of ls d) (site_count_of d) (map (observed net) vs)
+    (labelled_run (named_of ls d).program stream)
 
 -- A text is the one module that means what a design does: cycle for cycle, with runs that agree where streams do.
 pub record MeansDesign (ls : Levels) (d : DesignTree) (text : List ℕ) : Type 0 where
   pub net : Net
-  -- by the grammar of modules the text is this module, and no other
+  -- By the grammar of modules the text is this module, and no other.
   pub is_module : IsModule text net
   pub no_other : (other : Net) → IsModule text other → other ≡ net
-  -- its interface is the design's
+  -- Its interface is the design's.
   pub interface : HasInterface (named_of ls d) (width_of (order_of ls)) (site_count_of d) net
-  -- its numbers before the first cycle stand for the design's first state
+  -- Its numbers before the first cycle stand for the design's first state.
   pub starts : StartsAsDesign ls d net
-  -- clocked on any stream that fits the design it has one run, and that has the design's meaning
+  -- Clocked on any stream that fits the design it has one run, and that has the design's meaning.
   pub one_run : HasOneRunOnStreams ls d net
   pub means : MeansInEveryCycle ls d net
-  -- on streams that agree at or below a level the runs agree there in every cycle, in states and refusals and in plain numbers
+  -- On streams that agree at or below a level the runs agree there in every cycle: in states and refusals, and in plain
+  -- numbers.
   pub agree : RunsAgree ls d net
   pub look_alike : RunsLookAlike ls d net
 
--- of the answer of a `compile` and the desk before and after it
+-- A `compile` answers this on a desk that tells these contents before and after it, exactly where its files are so.
 pub record CompilesExactly (lattice design out : List ℕ) (answer : ℕ) (t n : Told) : Type 0 where
-  -- where it is done the design is well formed over the lattice, and what is written means it
+  -- If it is done, the design is well formed over the lattice, and what is written means it.
   pub only : answer ≡ 0
       → (ls : Levels) × (d : DesignTree) × Has t lattice IsLatticeFile ls × Has t design (IsWellFormedText ls) d
       × ((text : List ℕ) × (n.files out ≡ Some text) × MeansDesign ls d text)
-  -- where the design is well formed it is done, but for a failed call on the desk (6) and want of memory (7)
-  pub always : (ls : Levels) (d : DesignTree) → Has t lattice IsLatticeFile ls → Has t design (IsWellFormedText ls) d → answer ≢ 6 → answer ≢ 7 → answer ≡ 0
-  -- where no design that its bytes are is well formed it is refused as a design (1), but for these two
+  -- If the design is well formed, it is done, unless a call on the desk fails (6) or memory runs out (7).
+  pub always : (ls : Levels) (d : DesignTree) → Has t lattice IsLatticeFile ls → Has t design (IsWellFormedText ls) d
+      → answer ≢ 6 → answer ≢ 7 → answer ≡ 0
+  -- If no design that its bytes are is well formed, it is refused as a design (1), unless one of these two comes.
   pub refuses : (ls : Levels) (source : List ℕ) → Has t lattice IsLatticeFile ls → t.files design ≡ Some source
       → ((d : DesignTree) → ¬ (IsWellFormedText ls source d)) → answer ≢ 6 → answer ≢ 7 → answer ≡ 1
 
--- The words are those of a `compile`.
+-- If the arguments are those of a `compile`, it compiles exactly.
 abbrev pub Headline : (words : List (List ℕ)) → (answer : ℕ) → Told → Told → Type 0
 Headline words answer t n =
-    (lattice design out : List ℕ) → command_of words ≡ Some (compile lattice design out) → CompilesExactly lattice design out answer t n
+    (lattice design out : List ℕ) → command_of words ≡ Some (compile lattice design out)
+    → CompilesExactly lattice design out answer t n
