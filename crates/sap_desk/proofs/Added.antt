@@ -21,7 +21,7 @@ claim_elsewhere room owner name w other = rw (bytes_eq_apart_back name owner oth
 
 claim_shrinks : (room : ℕ) (name : List ℕ) (u : Use) (w more : ℕ) → claim_of room name u (w + more) ≤ claim_of room name u w
 claim_shrinks room name closed w more = omega arith
-claim_shrinks room name (reads owner position) w more = omega arith
+claim_shrinks room name (reads owner asked position) w more = omega arith
 claim_shrinks room name (writes owner) w more = elim (cases_Bool (bytes_eq owner name)) [
   | inl same ↦ rw same (omega arith)
   | inr other ↦ rw other (omega arith)
@@ -88,7 +88,7 @@ added_stream false files = refl
 
 only_stream : (u : Use) → IsWriting u → ((name : List ℕ) → u ≡ writes name → ⊥) → u ≡ stream
 only_stream closed can fileless = absurd can
-only_stream (reads name position) can fileless = absurd can
+only_stream (reads name asked position) can fileless = absurd can
 only_stream (writes name) can fileless = absurd (fileless name refl)
 only_stream stream can fileless = refl
 
@@ -203,6 +203,6 @@ writer_found room files channels k owner (Some place) s is found_at = tt
 
 pub fitting_whole : (u : Use) (count : ℕ) → IsWriting u → fitting_use u count ≡ count
 fitting_whole closed count can = absurd can
-fitting_whole (reads name position) count can = absurd can
+fitting_whole (reads name asked position) count can = absurd can
 fitting_whole (writes name) count can = refl
 fitting_whole stream count can = refl

@@ -1,5 +1,5 @@
 -- What a desk in memory tells once its store or its blame changed.
-use Rattle.sap_lemmas.proofs.Common.{rules, ◌≡◌, ℕ, ◌<◌, Bool, true, false, cond, List, [], length, refl, sym, ◌∙◌, ap, arith, eqb, codes, IsTrue, ◌↔◌, if◌then◌else◌}
+use Rattle.sap_lemmas.proofs.Common.{rules, ◌≡◌, ℕ, ◌<◌, Bool, true, false, cond, List, [], length, refl, sym, ◌∙◌, ap, subst, arith, eqb, codes, IsTrue, ◌↔◌, if◌then◌else◌}
 use Rattle.sap_desk.specs.Desk.{Told, blamed, blame_at}
 use Rattle.sap_desk.specs.declared.stored.Channel.{Channel}
 use Rattle.sap_desk.specs.declared.stored.Blame.{Blame}
@@ -51,6 +51,10 @@ pub stands_still : (old new : List Channel) (blame after : Blame) (channel : ℕ
     → ((count : ℕ) → BlameStands blame count → (IsTrue b → channel < count) → BlameStands after count) → BlameStands after (length new)
 stands_still old new blame after channel b stands keeps within counted =
     counted (length new) (λ k is. omega (arith, stands k is, keeps.more)) (λ h. omega (arith, within h, keeps.more))
+
+-- a step from a store that is as before
+pub names_kept : (mid old : Store) → mid ≡ old → (new : Store) → KeepsNames mid.channels.items new.channels.items → KeepsNames old.channels.items new.channels.items
+names_kept mid old same new keeps = subst (λ (s : Store). KeepsNames s.channels.items new.channels.items) same keeps
 
 pub same_told : (s : Shown) (t : Told) (given : ℕ → ℕ) → t ≡ s.told → given ≡ s.given → record s { told = t; given = given } ≡ s
 same_told s t given told gave = λ i. record s { told = told i; given = gave i }

@@ -1,8 +1,8 @@
 -- What calls in a row make of a desk.
-use Rattle.sap_lemmas.proofs.Common.{◌≡◌, ℕ, ◌+◌, ◌<◌, Bool, true, false, cond, List, [], ◌++◌, length, take, drop, append_assoc, refl, sym, ◌∙◌, ap, subst, arith, inl, inr, eqb, Option, Some, None, option_map, cases_eq, nat_tests, drop-drop, take-append-drop, append-nil, bytes_eq, ltb, IfSome, IsSome, unwrap_or, Result, Ok, Err, OnErr, test_of_same, bytes_eq_same}
+use Rattle.sap_lemmas.proofs.Common.{◌≡◌, ℕ, ◌+◌, ◌<◌, Bool, true, false, cond, List, [], ◌++◌, length, take, drop, append_assoc, refl, sym, ◌∙◌, ap, ap₂, subst, arith, inl, inr, eqb, Option, Some, None, option_map, cases_eq, nat_tests, drop-drop, take-append-drop, append-nil, bytes_eq, ltb, IfSome, IsSome, unwrap_or, Result, Ok, Err, OnErr, test_of_same, bytes_eq_same}
 use Rattle.std.proofs.Math.Seq.{drop-nil}
 use Rattle.sap_desk.specs.Cause.{Gave}
-use Rattle.sap_desk.specs.Desk.{Told, Use, at_name, added, added_to, closed, reads, writes, stream, at_number, rest_of, rest_of_use, moved, moved_use, bytes_of}
+use Rattle.sap_desk.specs.Desk.{Told, Use, at_name, added, added_to, closed, reads, writes, stream, at_number, rest_of, rest_of_use, moved, moved_use, read_on, read_on_use, bytes_of, IsReading}
 
 pub option_map-twice : {A B C : Type 0} (f : B → C) (g : A → B) (o : Option A) → option_map f (option_map g o) ≡ option_map (λ a. f (g a)) o
 option_map-twice f g None = refl
@@ -34,81 +34,151 @@ at_number-keeps-at k x f h n = elim (cases_eq n k) [
 pub at_number-keeps : {A : Type 0} (k : ℕ) (x : A) (f : ℕ → A) → f k ≡ x → at_number k x f ≡ f
 at_number-keeps k x f h = λ i n. at_number-keeps-at k x f h n i
 
-moved_use-twice : (m n : ℕ) (u : Use) → moved_use n (moved_use m u) ≡ moved_use (m + n) u
-moved_use-twice m n (reads name p) = ap (reads name) (omega arith)
-moved_use-twice m n (writes name) = refl
-moved_use-twice m n closed = refl
-moved_use-twice m n stream = refl
+-- two steps of one channel
+uses-twice : (channel : ℕ) (f g : Use → Use) (uses : ℕ → Use)
+    → at_number channel (g (at_number channel (f (uses channel)) uses channel)) (at_number channel (f (uses channel)) uses) ≡ at_number channel (g (f (uses channel))) uses
+uses-twice channel f g uses =
+    ap (λ (u : Use). at_number channel (g u) (at_number channel (f (uses channel)) uses)) (at_number-same channel (f (uses channel)) uses)
+    ∙ at_number-twice channel (f (uses channel)) (g (f (uses channel))) uses
 
-moved_use-none : (u : Use) → u ≡ moved_use 0 u
-moved_use-none (reads name p) = ap (reads name) (omega arith)
-moved_use-none (writes name) = refl
-moved_use-none closed = refl
-moved_use-none stream = refl
+read_on_use-none : (u : Use) → u ≡ read_on_use None 0 u
+read_on_use-none (reads name q p) = ap (reads name q) (omega arith)
+read_on_use-none (writes name) = refl
+read_on_use-none closed = refl
+read_on_use-none stream = refl
 
-pub moved-none : (channel : ℕ) (t : Told) → moved channel 0 t ≡ t
-moved-none channel t = λ i. record t { uses = at_number-keeps channel (moved_use 0 (t.uses channel)) t.uses (moved_use-none (t.uses channel)) i }
+-- no read
+pub read_on-none : (channel : ℕ) (t : Told) → read_on channel None 0 t ≡ t
+read_on-none channel t = λ i. record t { uses = at_number-keeps channel (read_on_use None 0 (t.uses channel)) t.uses (read_on_use-none (t.uses channel)) i }
 
-pub moved-twice : (channel m n : ℕ) (t : Told) → moved channel n (moved channel m t) ≡ moved channel (m + n) t
-moved-twice channel m n t =
-    let use_is : moved_use n (at_number channel (moved_use m (t.uses channel)) t.uses channel) ≡ moved_use (m + n) (t.uses channel)
-    = ap (moved_use n) (at_number-same channel (moved_use m (t.uses channel)) t.uses) ∙ moved_use-twice m n (t.uses channel) in
-    let uses_are = ap (λ (u : Use). at_number channel u (at_number channel (moved_use m (t.uses channel)) t.uses)) use_is
-    ∙ at_number-twice channel (moved_use m (t.uses channel)) (moved_use (m + n) (t.uses channel)) t.uses in
+moved_use-behind : (asked : Option ℕ) (m n : ℕ) (u : Use) → moved_use n (read_on_use asked m u) ≡ read_on_use (Some m) (m + n) u
+moved_use-behind None m n (reads name q p) = ap (reads name (p + m)) (omega arith)
+moved_use-behind (Some k) m n (reads name q p) = ap (reads name (p + m)) (omega arith)
+moved_use-behind None m n (writes name) = refl
+moved_use-behind (Some k) m n (writes name) = refl
+moved_use-behind None m n closed = refl
+moved_use-behind (Some k) m n closed = refl
+moved_use-behind None m n stream = refl
+moved_use-behind (Some k) m n stream = refl
+
+-- one read more
+pub moved-behind : (channel : ℕ) (asked : Option ℕ) (m n : ℕ) (t : Told) → moved channel n (read_on channel asked m t) ≡ read_on channel (Some m) (m + n) t
+moved-behind channel asked m n t =
+    let uses_are = uses-twice channel (read_on_use asked m) (moved_use n) t.uses
+    ∙ ap (λ (u : Use). at_number channel u t.uses) (moved_use-behind asked m n (t.uses channel)) in
     λ i. record t { uses = uses_are i }
 
+-- where the last of all reads was asked for, the second of them behind `m` bytes
+abbrev pub last_asked : (first : Option ℕ) (m : ℕ) (second : Option ℕ) → Option ℕ
+last_asked first m None = first
+last_asked first m (Some k) = Some (m + k)
+
+read_on_use-twice : (a b : Option ℕ) (m n : ℕ) (u : Use) → read_on_use b n (read_on_use a m u) ≡ read_on_use (last_asked a m b) (m + n) u
+read_on_use-twice None None m n (reads name q p) = ap (reads name q) (omega arith)
+read_on_use-twice (Some j) None m n (reads name q p) = ap (reads name (p + j)) (omega arith)
+read_on_use-twice None (Some k) m n (reads name q p) = ap₂ (reads name) (omega arith) (omega arith)
+read_on_use-twice (Some j) (Some k) m n (reads name q p) = ap₂ (reads name) (omega arith) (omega arith)
+read_on_use-twice None None m n (writes name) = refl
+read_on_use-twice (Some j) None m n (writes name) = refl
+read_on_use-twice None (Some k) m n (writes name) = refl
+read_on_use-twice (Some j) (Some k) m n (writes name) = refl
+read_on_use-twice None None m n closed = refl
+read_on_use-twice (Some j) None m n closed = refl
+read_on_use-twice None (Some k) m n closed = refl
+read_on_use-twice (Some j) (Some k) m n closed = refl
+read_on_use-twice None None m n stream = refl
+read_on_use-twice (Some j) None m n stream = refl
+read_on_use-twice None (Some k) m n stream = refl
+read_on_use-twice (Some j) (Some k) m n stream = refl
+
+-- reads, and then others
+pub read_on-twice : (channel : ℕ) (a b : Option ℕ) (m n : ℕ) (t : Told)
+    → read_on channel b n (read_on channel a m t) ≡ read_on channel (last_asked a m b) (m + n) t
+read_on-twice channel a b m n t =
+    let uses_are = uses-twice channel (read_on_use a m) (read_on_use b n) t.uses
+    ∙ ap (λ (u : Use). at_number channel u t.uses) (read_on_use-twice a b m n (t.uses channel)) in
+    λ i. record t { uses = uses_are i }
+
+-- a read that gives nothing changes a channel alone that is open for reading
+moved_use-unread : (u : Use) → (¬ IsReading u) → u ≡ moved_use 0 u
+moved_use-unread (reads name q p) shut = absurd (shut tt)
+moved_use-unread (writes name) shut = refl
+moved_use-unread closed shut = refl
+moved_use-unread stream shut = refl
+
+pub moved-unread : (channel : ℕ) (t : Told) → (¬ IsReading (t.uses channel)) → t ≡ moved channel 0 t
+moved-unread channel t shut =
+    let uses_are = at_number-keeps channel (moved_use 0 (t.uses channel)) t.uses (moved_use-unread (t.uses channel) shut) in
+    sym (λ i. record t { uses = uses_are i })
+
+rest-read_on_use : (t : Told) (asked : Option ℕ) (n : ℕ) (u : Use) → rest_of_use t (read_on_use asked n u) ≡ drop n (rest_of_use t u)
+rest-read_on_use t None n (reads name q p) = sym (drop-drop n p (bytes_of t name))
+rest-read_on_use t (Some k) n (reads name q p) = sym (drop-drop n p (bytes_of t name))
+rest-read_on_use t None n (writes name) = sym (drop-nil n)
+rest-read_on_use t (Some k) n (writes name) = sym (drop-nil n)
+rest-read_on_use t None n closed = sym (drop-nil n)
+rest-read_on_use t (Some k) n closed = sym (drop-nil n)
+rest-read_on_use t None n stream = sym (drop-nil n)
+rest-read_on_use t (Some k) n stream = sym (drop-nil n)
+
 rest-moved_use : (t : Told) (n : ℕ) (u : Use) → rest_of_use t (moved_use n u) ≡ drop n (rest_of_use t u)
-rest-moved_use t n (reads name p) = sym (drop-drop n p (bytes_of t name))
+rest-moved_use t n (reads name q p) = sym (drop-drop n p (bytes_of t name))
 rest-moved_use t n (writes name) = sym (drop-nil n)
 rest-moved_use t n closed = sym (drop-nil n)
 rest-moved_use t n stream = sym (drop-nil n)
 
-rest-moved_files : (channel n : ℕ) (t : Told) (u : Use) → rest_of_use (moved channel n t) u ≡ rest_of_use t u
-rest-moved_files channel n t (reads name p) = refl
-rest-moved_files channel n t (writes name) = refl
-rest-moved_files channel n t closed = refl
-rest-moved_files channel n t stream = refl
+-- what is left depends on the files
+rest-same : (t n : Told) (u : Use) → n.files ≡ t.files → rest_of_use n u ≡ rest_of_use t u
+rest-same t n (reads name q p) same = ap (λ (f : List ℕ → Option (List ℕ)). drop p (unwrap_or (f name) [])) same
+rest-same t n (writes name) same = refl
+rest-same t n closed same = refl
+rest-same t n stream same = refl
 
 pub rest-moved : (channel n : ℕ) (t : Told) → rest_of (moved channel n t) channel ≡ drop n (rest_of t channel)
 rest-moved channel n t =
     ap (rest_of_use (moved channel n t)) (at_number-same channel (moved_use n (t.uses channel)) t.uses)
-    ∙ rest-moved_files channel n t (moved_use n (t.uses channel)) ∙ rest-moved_use t n (t.uses channel)
+    ∙ rest-same t (moved channel n t) (moved_use n (t.uses channel)) refl ∙ rest-moved_use t n (t.uses channel)
+
+pub rest-read_on : (channel : ℕ) (asked : Option ℕ) (n : ℕ) (t : Told) → rest_of (read_on channel asked n t) channel ≡ drop n (rest_of t channel)
+rest-read_on channel asked n t =
+    ap (rest_of_use (read_on channel asked n t)) (at_number-same channel (read_on_use asked n (t.uses channel)) t.uses)
+    ∙ rest-same t (read_on channel asked n t) (read_on_use asked n (t.uses channel)) refl ∙ rest-read_on_use t asked n (t.uses channel)
 
 -- one more piece, and what was read and what is left are still all
-pub read_more : (channel len count : ℕ) (bytes before after : List ℕ) (old mid : Option Told)
-    → mid ≡ option_map (moved channel len) old
+pub read_more : (channel : ℕ) (asked : Option ℕ) (len count : ℕ) (bytes before after : List ℕ) (old mid : Option Told)
+    → mid ≡ option_map (read_on channel asked len) old
     → IfSome old (λ t. bytes ++ drop len (rest_of t channel) ≡ rest_of t channel)
     → IfSome mid (λ t. Gave t channel count before after)
     → IfSome old (λ t. (bytes ++ take count after) ++ drop (len + count) (rest_of t channel) ≡ rest_of t channel)
-read_more channel len count bytes before after None mid is so_far gave = tt
-read_more channel len count bytes before after (Some t) mid is so_far gave =
-    let g : Gave (moved channel len t) channel count before after = let P : Option Told → Type 0 = λ o. IfSome o (λ t. Gave t channel count before after) in subst P is gave in
-    let rest = rest-moved channel len t in
+read_more channel asked len count bytes before after None mid is so_far gave = tt
+read_more channel asked len count bytes before after (Some t) mid is so_far gave =
+    let g : Gave (read_on channel asked len t) channel count before after = let P : Option Told → Type 0 = λ o. IfSome o (λ t. Gave t channel count before after) in subst P is gave in
+    let rest = rest-read_on channel asked len t in
     let piece : take count after ≡ take count (drop len (rest_of t channel)) = g.piece ∙ ap (take count) rest in
     rw (piece, ← drop-drop count len (rest_of t channel), append_assoc bytes _ _, take-append-drop count (drop len (rest_of t channel))) so_far
 
-pub read_end : (channel len : ℕ) (bytes before after : List ℕ) (old mid : Option Told)
-    → mid ≡ option_map (moved channel len) old
+pub read_end : (channel : ℕ) (asked : Option ℕ) (len : ℕ) (bytes before after : List ℕ) (old mid : Option Told)
+    → mid ≡ option_map (read_on channel asked len) old
     → IfSome old (λ t. bytes ++ drop len (rest_of t channel) ≡ rest_of t channel)
     → IfSome mid (λ t. Gave t channel 0 before after)
     → (length before ≡ 0 → ⊥)
     → IfSome old (λ t. bytes ≡ rest_of t channel)
-read_end channel len bytes before after None mid is so_far gave some = tt
-read_end channel len bytes before after (Some t) mid is so_far gave some =
-    let g : Gave (moved channel len t) channel 0 before after = let P : Option Told → Type 0 = λ o. IfSome o (λ t. Gave t channel 0 before after) in subst P is gave in
+read_end channel asked len bytes before after None mid is so_far gave some = tt
+read_end channel asked len bytes before after (Some t) mid is so_far gave some =
+    let g : Gave (read_on channel asked len t) channel 0 before after = let P : Option Told → Type 0 = λ o. IfSome o (λ t. Gave t channel 0 before after) in subst P is gave in
     elim (g.end refl) [
       | inl none ↦ absurd (some none)
       | inr done ↦
-          let left : drop len (rest_of t channel) ≡ [] = sym (rest-moved channel len t) ∙ done in
+          let left : drop len (rest_of t channel) ≡ [] = sym (rest-read_on channel asked len t) ∙ done in
           sym (append-nil bytes) ∙ rw left at so_far
     ]
 
-pub told_more : (channel len count : ℕ) (old mid new : Option Told)
-    → mid ≡ option_map (moved channel len) old → new ≡ option_map (moved channel count) mid
-    → new ≡ option_map (moved channel (len + count)) old
-told_more channel len count old mid new is more =
-    more ∙ ap (option_map (moved channel count)) is ∙ option_map-twice (moved channel count) (moved channel len) old
-    ∙ option_map-same _ _ old (moved-twice channel len count)
+pub told_more : (channel : ℕ) (asked : Option ℕ) (len count : ℕ) (old mid new : Option Told)
+    → mid ≡ option_map (read_on channel asked len) old → new ≡ option_map (moved channel count) mid
+    → new ≡ option_map (read_on channel (Some len) (len + count)) old
+told_more channel asked len count old mid new is more =
+    more ∙ ap (option_map (moved channel count)) is ∙ option_map-twice (moved channel count) (read_on channel asked len) old
+    ∙ option_map-same _ _ old (moved-behind channel asked len count)
 
 pub file_there : (o : Option (List ℕ)) → IsSome o → o ≡ Some (unwrap_or o [])
 file_there None h = cc
@@ -130,7 +200,7 @@ pub other_number : (n k : ℕ) → n < k → eqb n k ≡ false
 other_number n k h = grind (arith, nat_tests)
 
 added_to-twice : (u : Use) (a b : List ℕ) (files : List ℕ → Option (List ℕ)) → added_to u b (added_to u a files) ≡ added_to u (a ++ b) files
-added_to-twice (reads name p) a b files = refl
+added_to-twice (reads name q p) a b files = refl
 added_to-twice (writes name) a b files =
     ap (λ (o : Option (List ℕ)). at_name name (Some (unwrap_or o [] ++ b)) (at_name name (Some (unwrap_or (files name) [] ++ a)) files))
     (at_name-same name (Some (unwrap_or (files name) [] ++ a)) files)

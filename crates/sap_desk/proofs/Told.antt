@@ -37,18 +37,18 @@ module _ (k : ℕ) (old new : List Channel) (c : Changed k (λ c d. d ≡ record
       omega (arith, same, s.within_room k))
 
 -- a channel is moved on
-module _ (k position count : ℕ) (old new : List Channel) (c : Changed k (λ c d. d ≡ record c { state = Reading (position + count); given = c.given + count }) old new) where
+module _ (k position count : ℕ) (old new : List Channel) (c : Changed k (λ c d. d ≡ record c { state = Reading position (position + count); given = c.given + count }) old new) where
   names_moved_at : string_bytes c.after.name ≡ string_bytes c.before.name
   names_moved_at = ap (λ (d : Channel). string_bytes d.name) c.by
 
   pub names_moved : KeepsNames old new
   names_moved = names_after k old new c.before c.after c.was c.now names_moved_at
 
-  pub told_moved : (files : List StoredFile) (room : ℕ) (blame name : List ℕ) → name ≡ names_of old k → uses_of old k ≡ reads name position
+  pub told_moved : (files : List StoredFile) (room : ℕ) (blame name : List ℕ) → name ≡ names_of old k → (asked : ℕ) × (uses_of old k ≡ reads name asked position)
       → told_of files new room blame ≡ moved k count (told_of files old room blame)
-  told_moved files room blame name owner is =
+  told_moved files room blame name owner (asked, is) =
       let before : string_bytes c.before.name ≡ name = sym (told_before k old new c.before c.after c.was c.now (λ c. string_bytes c.name) []) ∙ sym owner in
-      let now : use_at c.after ≡ moved_use count (uses_of old k) = ap use_at c.by ∙ ap (λ (n : List ℕ). reads n (position + count)) before ∙ sym (ap (moved_use count) is) in
+      let now : use_at c.after ≡ moved_use count (uses_of old k) = ap use_at c.by ∙ ap (λ (n : List ℕ). reads n position (position + count)) before ∙ sym (ap (moved_use count) is) in
       let uses = told_after k old new c.before c.after c.was c.now use_at closed (moved_use count (uses_of old k)) now in
       let written = told_same k old new c.before c.after c.was c.now (λ c. c.written.items) [] (ap (λ (d : Channel). d.written.items) c.by) in
       λ i. record (told_of files old room blame) { uses = uses i; written = written i }
@@ -60,12 +60,29 @@ module _ (k position count : ℕ) (old new : List Channel) (c : Changed k (λ c 
   pub stands_moved : (room : ℕ) (files : List StoredFile) → Stands room files old → Stands room files new
   stands_moved room files s = stands_changed room k old new c.before c.after c.was c.now files s (record {
     claim = λ name. let none : claim room name c.after ≡ 0 = ap (claim room name) c.by in omega (arith, none);
-    writes = λ name is. let bad : reads (string_bytes c.before.name) (position + count) ≡ writes name = sym (ap use_at c.by) ∙ is in absurd (cc bad);
+    writes = λ name is. let bad : reads (string_bytes c.before.name) position (position + count) ≡ writes name = sym (ap use_at c.by) ∙ is in absurd (cc bad);
     writing = λ is. absurd (subst IsWriting (ap use_at c.by) is);
     memory = let same : vec_capacity c.after.written ≡ vec_capacity c.before.written = ap (λ (d : Channel). vec_capacity d.written) c.by in omega (arith, same);
   }) (let same : length c.after.written.items ≡ length (written_of old k)
       = ap (λ (d : Channel). length d.written.items) c.by ∙ ap length (sym (told_before k old new c.before c.after c.was c.now (λ c. c.written.items) [])) in
       omega (arith, same, s.within_room k))
+
+-- a channel is asked in vain
+pub noted : (k position : ℕ) (old new : List Channel) → Changed k (λ c d. d ≡ record c { state = Reading position position }) old new
+    → Changed k (λ c d. d ≡ record c { state = Reading position (position + 0); given = c.given + 0 }) old new
+noted k position old new n =
+    let same_place : position ≡ position + 0 = omega arith in
+    let same_count : n.before.given ≡ n.before.given + 0 = omega arith in
+    record {
+      before = n.before;
+      after = n.after;
+      was = n.was;
+      now = n.now;
+      by = n.by ∙ (λ i. record n.before { state = Reading position (same_place i); given = same_count i });
+    }
+
+pub given_noted : (k position : ℕ) (old new : List Channel) → Changed k (λ c d. d ≡ record c { state = Reading position position }) old new → given_of new ≡ given_of old
+given_noted k position old new n = given_moved k position 0 old new (noted k position old new n) ∙ at_number-keeps k (given_of old k + 0) (given_of old) (omega arith)
 
 pub fresh_use : (old : List Channel) (k : ℕ) → k ≡ length old → uses_of old k ≡ closed
 fresh_use old k is = ap (uses_of old) is ∙ placed_end use_at closed old
@@ -94,11 +111,11 @@ module _ (old new : List Channel) (c : Channel) (now : new ≡ old ++ c ∷ []) 
   uses_more : (k : ℕ) (u : Use) → k ≡ length old → use_at c ≡ u → uses_of new ≡ at_number k u (uses_of old)
   uses_more k u number is = told_added old new c now use_at closed u k number is
 
-  pub told_opened : (files : List StoredFile) (room : ℕ) (blame name : List ℕ) (k : ℕ) → k ≡ length old → use_at c ≡ reads name 0
+  pub told_opened : (files : List StoredFile) (room : ℕ) (blame name : List ℕ) (k : ℕ) → k ≡ length old → use_at c ≡ reads name 0 0
       → told_of files new room blame ≡ opened k name (told_of files old room blame)
   told_opened files room blame name k number is =
       let written = written_more k number ∙ at_number-keeps k [] (written_of old) (ap (written_of old) number ∙ placed_end (λ c. c.written.items) [] old) in
-      λ i. record (told_of files old room blame) { uses = uses_more k (reads name 0) number is i; written = written i }
+      λ i. record (told_of files old room blame) { uses = uses_more k (reads name 0 0) number is i; written = written i }
 
   use_added : (k : ℕ) → eqb k (length old) ≡ true → uses_of new k ≡ use_at c
   use_added k same = ap (λ (u : ℕ → Use). u k) (uses_more (length old) (use_at c) refl refl) ∙ rw same refl
@@ -120,12 +137,12 @@ module _ (old new : List Channel) (c : Channel) (now : new ≡ old ++ c ∷ []) 
         | inr other ↦ let same : length (written_of new k) ≡ length (written_of old k) = ap length at_k ∙ rw other refl in omega (arith, same, short k)
       ]
 
-  pub stands_opened : (room : ℕ) (files : List StoredFile) (name : List ℕ) → use_at c ≡ reads name 0 → Stands room files old → Stands room files new
+  pub stands_opened : (room : ℕ) (files : List StoredFile) (name : List ℕ) → use_at c ≡ reads name 0 0 → Stands room files old → Stands room files new
   stands_opened room files name is s = stands_with room files old new s
       (omega (arith, length_added old new c now))
       (λ n. let zero_claim : claim room n c ≡ 0 = ap (λ (u : Use). claim_of room n u (length c.written.items)) is in omega (arith, claims_added old new c now room n, zero_claim))
       (λ k n writing. elim (cases_Bool (eqb k (length old))) [
-        | inl here ↦ let bad : reads name 0 ≡ writes n = sym is ∙ sym (use_added k here) ∙ writing in absurd (cc bad)
+        | inl here ↦ let bad : reads name 0 0 ≡ writes n = sym is ∙ sym (use_added k here) ∙ writing in absurd (cc bad)
         | inr other ↦ sym (use_old k other) ∙ writing
       ])
       (λ k writing. elim (cases_Bool (eqb k (length old))) [
@@ -177,6 +194,6 @@ module _ (old new : List Channel) (c : Channel) (now : new ≡ old ++ c ∷ []) 
 
 -- a channel for reading is added, or nothing is
 pub stands_reader : (room : ℕ) (files : List StoredFile) (old new : List Channel) (c : Channel) (name : List ℕ) (b : Bool) → new ≡ cond b (old ++ c ∷ []) old
-    → c.written.items ≡ [] → c.given ≡ 0 → use_at c ≡ reads name 0 → Stands room files old → Stands room files new
+    → c.written.items ≡ [] → c.given ≡ 0 → use_at c ≡ reads name 0 0 → Stands room files old → Stands room files new
 stands_reader room files old new c name true now empty none is s = stands_opened old new c now empty none room files name is s
 stands_reader room files old new c name false now empty none is s = subst (Stands room files) (sym now) s

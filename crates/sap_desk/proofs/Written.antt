@@ -8,7 +8,7 @@ use Rattle.sap_desk.proofs.Added.{fitting_whole}
 
 fits_count : (u : Use) (count : ℕ) → fitting_use u count ≤ count
 fits_count closed count = omega arith
-fits_count (reads name position) count = omega arith
+fits_count (reads name asked position) count = omega arith
 fits_count (writes name) count = omega arith
 fits_count stream count = omega arith
 
@@ -18,7 +18,7 @@ fitting_within t channel count = omega (arith, fits_count (t.uses channel) (min 
 
 fits_none : (u : Use) (count : ℕ) → (¬ IsWriting u) → fitting_use u count ≡ 0
 fits_none closed count shut = refl
-fits_none (reads name position) count shut = refl
+fits_none (reads name asked position) count shut = refl
 fits_none (writes name) count shut = absurd (shut tt)
 fits_none stream count shut = absurd (shut tt)
 
@@ -49,7 +49,7 @@ fitting_all t channel piece open_for fits =
 
 writing_or : (u : Use) → IsWriting u ⊎ (¬ IsWriting u)
 writing_or closed = inr (λ w. w)
-writing_or (reads name position) = inr (λ w. w)
+writing_or (reads name asked position) = inr (λ w. w)
 writing_or (writes name) = inl tt
 writing_or stream = inl tt
 

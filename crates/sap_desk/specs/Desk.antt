@@ -1,12 +1,12 @@
 -- What a desk holds, as far as it tells, and what each call makes of it.
-use Rattle.std.specs.Prelude.{ℕ, ◌+◌, cond, eqb, ltb, List, [], ◌++◌, drop, bytes_eq, codes, Option, Some, unwrap_or, option_map, slice_get}
+use Rattle.std.specs.Prelude.{ℕ, ◌+◌, cond, eqb, ltb, List, [], ◌++◌, drop, bytes_eq, codes, Option, Some, None, unwrap_or, option_map, slice_get}
 
 -- what a channel is open for
 pub data Use : Type 0 where
   -- for nothing: it was never opened, or it was finished
   closed : Use
-  -- for reading the file of a name, from a position on
-  reads : List ℕ → ℕ → Use
+  -- for reading the file of a name, from a position on; its last read was asked for at the position `asked`, which is 0 before the first
+  reads : (name : List ℕ) → (asked position : ℕ) → Use
   -- for writing the file of a name
   writes : List ℕ → Use
   -- for writing a standard stream: channels 1 and 2
@@ -38,7 +38,7 @@ abbrev pub bytes_of : Told → List ℕ → List ℕ
 bytes_of t name = unwrap_or (t.files name) []
 
 abbrev pub rest_of_use : Told → Use → List ℕ
-rest_of_use t (reads name position) = drop position (bytes_of t name)
+rest_of_use t (reads name asked position) = drop position (bytes_of t name)
 rest_of_use t (writes name) = []
 rest_of_use t closed = []
 rest_of_use t stream = []
@@ -49,21 +49,21 @@ rest_of t channel = rest_of_use t (t.uses channel)
 
 -- open for reading
 abbrev pub IsReading : Use → Type 0
-IsReading (reads name position) = Unit {0}
+IsReading (reads name asked position) = Unit {0}
 IsReading (writes name) = ⊥
 IsReading closed = ⊥
 IsReading stream = ⊥
 
 -- open for writing
 abbrev pub IsWriting : Use → Type 0
-IsWriting (reads name position) = ⊥
+IsWriting (reads name asked position) = ⊥
 IsWriting (writes name) = Unit {0}
 IsWriting closed = ⊥
 IsWriting stream = Unit {0}
 
 -- open for either
 abbrev pub IsOpen : Use → Type 0
-IsOpen (reads name position) = Unit {0}
+IsOpen (reads name asked position) = Unit {0}
 IsOpen (writes name) = Unit {0}
 IsOpen closed = ⊥
 IsOpen stream = Unit {0}
@@ -72,17 +72,29 @@ IsOpen stream = Unit {0}
 
 -- `open_in`: the channel reads the file of the name, from its first byte
 abbrev pub opened : ℕ → List ℕ → Told → Told
-opened channel name t = record t { uses = at_number channel (reads name 0) t.uses }
+opened channel name t = record t { uses = at_number channel (reads name 0 0) t.uses }
 
 abbrev pub moved_use : ℕ → Use → Use
-moved_use count (reads name position) = reads name (position + count)
+moved_use count (reads name asked position) = reads name position (position + count)
 moved_use count (writes name) = writes name
 moved_use count closed = closed
 moved_use count stream = stream
 
--- `read`: the position moves on by what was given
+-- `read`: it was asked for at the position, which moves on by what was given; where it fails, by nothing
 abbrev pub moved : ℕ → ℕ → Told → Told
 moved channel count t = record t { uses = at_number channel (moved_use count (t.uses channel)) t.uses }
+
+-- what reads in a row make of a use: they gave `count` bytes, and the last of them was asked for once `asked` of these were given, if there was one
+abbrev pub read_on_use : (asked : Option ℕ) → (count : ℕ) → Use → Use
+read_on_use None count (reads name last position) = reads name last (position + count)
+read_on_use (Some few) count (reads name last position) = reads name (position + few) (position + count)
+read_on_use asked count (writes name) = writes name
+read_on_use asked count closed = closed
+read_on_use asked count stream = stream
+
+-- `read`, any number of times, on one channel
+abbrev pub read_on : (channel : ℕ) → (asked : Option ℕ) → (count : ℕ) → Told → Told
+read_on channel asked count t = record t { uses = at_number channel (read_on_use asked count (t.uses channel)) t.uses }
 
 -- `create`: the file of the name is empty, and the channel writes it, with nothing written yet
 abbrev pub created : ℕ → List ℕ → Told → Told
@@ -93,7 +105,7 @@ created channel name t = record t {
 }
 
 abbrev pub added_to : Use → List ℕ → (List ℕ → Option (List ℕ)) → List ℕ → Option (List ℕ)
-added_to (reads name position) piece files = files
+added_to (reads name asked position) piece files = files
 added_to (writes name) piece files = at_name name (Some (unwrap_or (files name) [] ++ piece)) files
 added_to closed piece files = files
 added_to stream piece files = files
@@ -121,19 +133,19 @@ blame_at channel name t = cond (eqb channel 2) t (blamed (cond (eqb channel 1) (
 -- the file that a failed call blames: none where the channel isn't open for the call
 
 abbrev pub name_if_reading : Use → List ℕ
-name_if_reading (reads name position) = name
+name_if_reading (reads name asked position) = name
 name_if_reading (writes name) = []
 name_if_reading closed = []
 name_if_reading stream = []
 
 abbrev pub name_if_writing : Use → List ℕ
-name_if_writing (reads name position) = []
+name_if_writing (reads name asked position) = []
 name_if_writing (writes name) = name
 name_if_writing closed = []
 name_if_writing stream = []
 
 abbrev pub name_if_open : Use → List ℕ
-name_if_open (reads name position) = name
+name_if_open (reads name asked position) = name
 name_if_open (writes name) = name
 name_if_open closed = []
 name_if_open stream = []

@@ -23,7 +23,7 @@ files_of files = λ name. option_map (λ f. f.bytes.items) (file_named files nam
 -- what a channel in a state is open for, where its file has this name
 abbrev pub use_of : State → List ℕ → Use
 use_of Closed name = closed
-use_of (Reading position) name = reads name position
+use_of (Reading asked position) name = reads name asked position
 use_of Writing name = writes name
 use_of Stream name = stream
 

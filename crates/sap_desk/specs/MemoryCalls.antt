@@ -19,7 +19,7 @@ made room = record {
 -- how many of so many bytes a channel takes: those that fit, where it is open for writing
 abbrev pub fitting_use : Use → ℕ → ℕ
 fitting_use closed count = 0
-fitting_use (reads name position) count = 0
+fitting_use (reads name asked position) count = 0
 fitting_use (writes name) count = count
 fitting_use stream count = count
 

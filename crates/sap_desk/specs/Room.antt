@@ -8,7 +8,7 @@ use Rattle.sap_desk.specs.Memory.{use_at, uses_of, written_of, file_named}
 -- how many bytes a channel of this use, on which so many were written, may still add to the file of a name
 abbrev pub claim_of : ℕ → List ℕ → Use → ℕ → ℕ
 claim_of room name closed written = 0
-claim_of room name (reads owner position) written = 0
+claim_of room name (reads owner asked position) written = 0
 claim_of room name (writes owner) written = cond (bytes_eq owner name) (room - written) 0
 claim_of room name stream written = 0
 

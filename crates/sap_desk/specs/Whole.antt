@@ -2,7 +2,7 @@
 use Rattle.std.specs.Prelude.{◌≡◌, ◌⊎◌, ℕ, ◌+◌, ◌^◌, ◌<◌, ◌≤◌, min, List, [], ◌∷◌, ◌++◌, take, length, codes, Option, Some, None, IfSome, IsSome, IsSomeAnd, option_map, Result, OnOk, OnErr}
 use Rattle.std.specs.List.{flat_map}
 use Rattle.std.specs.Borrow.{Bor}
-use Rattle.sap_desk.specs.Desk.{Told, Use, closed, reads, writes, stream, IsOpen, at_name, at_number, bytes_of, blamed, added}
+use Rattle.sap_desk.specs.Desk.{Told, Use, closed, reads, writes, stream, IsOpen, at_name, at_number, bytes_of, blamed, added, name_if_reading, read_on, rest_of}
 use Rattle.sap_desk.specs.Cause.{counted}
 
 -- what holds of the contents before and after, where the desk tells
@@ -21,7 +21,7 @@ pub record SameChannels (t n : Told) : Type 0 where
 
 -- open for the file of a name
 abbrev pub IsFor : List ℕ → Use → Type 0
-IsFor name (reads owner position) = owner ≡ name
+IsFor name (reads owner asked position) = owner ≡ name
 IsFor name (writes owner) = owner ≡ name
 IsFor name closed = ⊥
 IsFor name stream = ⊥
@@ -56,27 +56,36 @@ pub data IsFront (limit : ℕ) (whole part : List ℕ) : Type 0 where
   all : part ≡ whole → IsFront limit whole part
   more : limit < length part → (rest : List ℕ) → part ++ rest ≡ whole → IsFront limit whole part
 
--- This many bytes of a text are read by reading until more than `limit` bytes were got, or its end: a piece of at most 4096 bytes is asked for only
--- where no more than the limit were got before it.
-pub record IsReadTo (limit : ℕ) (bytes : List ℕ) (count : ℕ) : Type 0 where
-  pub within : count ≤ length bytes
-  pub most : count ≤ limit + 4096
+-- How far a text is read by pieces of at most 4096 bytes, to its end, or until more bytes than a limit were got: the last piece was asked for at one
+-- place, where no more than the limit were got, and ends at another.
+pub record IsReadTo (limit : Option ℕ) (bytes : List ℕ) (asked position : ℕ) : Type 0 where
+  pub within : position ≤ length bytes
+  pub from : asked ≤ position
+  pub piece : position ≤ asked + 4096
+  pub most : IfSome limit (λ most. asked ≤ most)
 
--- a channel that wasn't open stands in the file of a name, which is read until more than `limit` bytes were got, and every other is as before
-pub record StandsWithin (limit : ℕ) (name : List ℕ) (t : Told) (before after : ℕ → Use) : Type 0 where
+-- So many bytes were read so of what a channel had left, and then this came of the desk, by the name of the file that the channel reads.
+pub record ReadTo (limit channel count : ℕ) (then : (name : List ℕ) → Told → Told) (before now : Option Told) : Type 0 where
+  pub asked : ℕ
+  pub read : IfSome before (λ t. IsReadTo (Some limit) (rest_of t channel) asked count)
+  pub told : now ≡ option_map (λ t. then (name_if_reading (t.uses channel)) (read_on channel (Some asked) count t)) before
+
+-- a channel that wasn't open stands in the file of a name, which is read so far, and every other is as before
+pub record StandsWithin (limit : Option ℕ) (name : List ℕ) (t : Told) (before after : ℕ → Use) : Type 0 where
   pub channel : ℕ
   pub above : 2 < channel
   pub fresh : before channel ≡ closed
+  pub asked : ℕ
   pub position : ℕ
-  pub uses : after ≡ at_number channel (reads name position) before
-  pub read : IsReadTo limit (bytes_of t name) position
+  pub uses : after ≡ at_number channel (reads name asked position) before
+  pub read : IsReadTo limit (bytes_of t name) asked position
 
 -- what is open after a failed call on such a file: what was open before, and the channel of that call where it has one
-abbrev pub OpenWithin : (limit : ℕ) → (name : List ℕ) → Told → (before after : ℕ → Use) → Type 0
+abbrev pub OpenWithin : (limit : Option ℕ) → (name : List ℕ) → Told → (before after : ℕ → Use) → Type 0
 OpenWithin limit name t before after = (after ≡ before) ⊎ StandsWithin limit name t before after
 
 -- so it is open
-abbrev pub StoodWithin : (limit : ℕ) → List ℕ → Told → Told → Type 0
+abbrev pub StoodWithin : (limit : Option ℕ) → List ℕ → Told → Told → Type 0
 StoodWithin limit name t n = OpenWithin limit name t t.uses n.uses
 
 -- this is got of the file of a name

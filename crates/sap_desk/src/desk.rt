@@ -50,7 +50,7 @@ pub trait Desk {
         ensures given { IfOk result (λ count. given self.new ≡ at_number channel (given self.old channel + count) (given self.old)) }
         ensures bounded { OnOk result (given self.new channel < 2 ^ 32) }
 
-        ensures failed { OnErr result (told self.new ≡ option_map (λ t. blame_at channel (name_if_reading (t.uses channel)) t) (told self.old)) }
+        ensures failed { OnErr result (told self.new ≡ option_map (λ t. blame_at channel (name_if_reading (t.uses channel)) (moved channel 0 t)) (told self.old)) }
         ensures given_stands { OnErr result (given self.new ≡ given self.old) }
         ensures counts { CountsAt channel (faults self.old) (faults self.new) (lost self.old) (lost self.new) result }
 

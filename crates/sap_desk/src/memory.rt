@@ -118,7 +118,7 @@ impl Desk for MemoryDesk {
         ensures most { IfOk result (λ count. count ≡ min (length buf.old) (length (rest_of (shown self.old).told channel))) }
         ensures given { IfOk result (λ count. (shown self.new).given ≡ at_number channel ((shown self.old).given channel + count) (shown self.old).given) }
         ensures bounded { OnOk result ((shown self.new).given channel < 2 ^ 32) }
-        ensures failed { OnErr result ((shown self.new).told ≡ blame_at channel (name_if_reading ((shown self.old).told.uses channel)) (shown self.old).told) }
+        ensures failed { OnErr result ((shown self.new).told ≡ blame_at channel (name_if_reading ((shown self.old).told.uses channel)) (moved channel 0 (shown self.old).told)) }
         ensures given_stands { OnErr result ((shown self.new).given ≡ (shown self.old).given) }
         ensures counts { CountsAt channel (shown self.old).faults (shown self.new).faults (shown self.old).lost (shown self.new).lost result }
         ensures called { Called (shown self.old) (shown self.new) }
@@ -127,11 +127,15 @@ impl Desk for MemoryDesk {
     {
         let is_named = self.store.reads_file(channel);
         if self.schedule.next() {
+            self.store.ask(channel);
             return Err(self.failures.fail(channel, is_named));
         }
         match self.store.read(channel, buf) {
             Some(count) => Ok(count),
-            None => Err(self.failures.fail(channel, is_named)),
+            None => {
+                self.store.ask(channel);
+                Err(self.failures.fail(channel, is_named))
+            }
         }
     }
 

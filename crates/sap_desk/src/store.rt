@@ -96,18 +96,30 @@ fn close(channels: &mut Vec<Channel>, k: usize)
     channels[k].state = State::Closed;
 }
 
-// Moves a channel on.
+// Moves a channel on, which is read at a position.
 fn advance(channels: &mut Vec<Channel>, k: usize, position: usize, count: usize)
     requires there { k < length channels.old.items }
     requires fits { position + count < 2 ^ 64 }
     requires bounded { given_of channels.old.items k + count < 2 ^ 32 }
-    ensures { Changed k (λ c d. d ≡ record c { state = Reading (position + count); given = c.given + count }) channels.old.items channels.new.items }
+    ensures { Changed k (λ c d. d ≡ record c { state = Reading position (position + count); given = c.given + count }) channels.old.items channels.new.items }
 {
     let channel = &mut channels[k];
     channel.state = State::Reading {
+        asked: position,
         position: position + count,
     };
     channel.given += count as u64;
+}
+
+// A read is asked for at a position, and gives nothing.
+fn note(channels: &mut Vec<Channel>, k: usize, position: usize)
+    requires { k < length channels.old.items }
+    ensures { Changed k (λ c d. d ≡ record c { state = Reading position position }) channels.old.items channels.new.items }
+{
+    channels[k].state = State::Reading {
+        asked: position,
+        position,
+    };
 }
 
 fn add_to_channel(channels: &mut Vec<Channel>, k: usize, part: &[u8])
@@ -162,7 +174,7 @@ fn next_piece(
 ) -> Option<(usize, usize)>
     ensures gave { IfSome result (λ r. (room : ℕ) (blame : List ℕ) → Gave (told_of files.now.items channels.now.items room blame) k r.1 buf.old buf.new) }
     ensures most { IfSome result (λ r. (room : ℕ) (blame : List ℕ) → r.1 ≡ min (length buf.old) (length (rest_of (told_of files.now.items channels.now.items room blame) k))) }
-    ensures reads { IfSome result (λ r. uses_of channels.now.items k ≡ reads (names_of channels.now.items k) r.0) }
+    ensures reads { IfSome result (λ r. (asked : ℕ) × (uses_of channels.now.items k ≡ reads (names_of channels.now.items k) asked r.0)) }
     ensures bounded { IfSome result (λ r. given_of channels.now.items k + r.1 < 2 ^ 32) }
     ensures there { OnSome result (k < length channels.now.items) }
     ensures fits { IfSome result (λ r. r.0 + r.1 < 2 ^ 64) }
@@ -170,7 +182,7 @@ fn next_piece(
 {
     let channel = channels.get(k)?;
     let state = channel.state;
-    let State::Reading { position } = state else {
+    let State::Reading { position, .. } = state else {
         return None;
     };
     let bytes = bytes_of(files, &channel.name);
@@ -180,6 +192,19 @@ fn next_piece(
     }
     let count = give(bytes, position, buf);
     Some((position, count))
+}
+
+// Where a channel reads.
+fn place_read(channels: &Vec<Channel>, k: usize) -> Option<usize>
+    ensures reads { IfSome result (λ position. (asked : ℕ) × (uses_of channels.now.items k ≡ reads (names_of channels.now.items k) asked position)) }
+    ensures there { OnSome result (k < length channels.now.items) }
+    ensures none { IfNone result (¬ IsReading (uses_of channels.now.items k)) }
+{
+    let channel = channels.get(k)?;
+    match channel.state {
+        State::Reading { position, .. } => Some(position),
+        State::Closed | State::Writing | State::Stream => None,
+    }
 }
 
 // The name of the file that a channel writes.
@@ -296,7 +321,15 @@ impl Store {
         ensures err { OnErr result (Unchanged self.old self.new) }
         ensures names { KeepsNames self.old.channels.items self.new.channels.items }
     {
-        let channel = new_channel(self.alloc, State::Reading { position: 0 }, name, 0)?;
+        let channel = new_channel(
+            self.alloc,
+            State::Reading {
+                asked: 0,
+                position: 0,
+            },
+            name,
+            0,
+        )?;
         let k = self.channels.len();
         self.channels.push(channel)?;
         Ok(k)
@@ -359,6 +392,18 @@ impl Store {
         let (position, count) = next_piece(&self.files, &self.channels, k, buf)?;
         advance(&mut self.channels, k, position, count);
         Some(count)
+    }
+
+    /// Keeps that a read was asked for, which gave nothing.
+    pub fn ask(&mut self, k: usize)
+        ensures told { (blame : List ℕ) → told_in self.new blame ≡ moved k 0 (told_in self.old blame) }
+        ensures given { given_in self.new ≡ given_in self.old }
+        ensures names { KeepsNames self.old.channels.items self.new.channels.items }
+    {
+        match place_read(&self.channels, k) {
+            Some(position) => note(&mut self.channels, k, position),
+            None => {}
+        }
     }
 
     pub fn close(&mut self, k: usize)

@@ -11,7 +11,8 @@ pub struct StoredFile {
 #[derive(Clone, Copy, PartialEq, Eq)]
 pub enum State {
     Closed,
-    Reading { position: usize },
+    // where it stands, and where the last read was asked for
+    Reading { asked: usize, position: usize },
     Writing,
     Stream,
 }

@@ -1,8 +1,8 @@
 // Whole files through a desk.
-ghost use Rattle.std.specs.Prelude.{◌≡◌, ◌⊎◌, ◌+◌, ◌<◌, ◌≤◌, ◌^◌, ℕ, min, Some, length, IfOk, OnOk, IfSome, IsErrOf, option_map};
-ghost use Rattle.sap_desk.specs.Desk.{at_number, rest_of, moved, name_if_reading, blamed, IsReading};
+ghost use Rattle.std.specs.Prelude.{◌≡◌, ◌⊎◌, ◌+◌, ◌<◌, ◌≤◌, ◌^◌, ℕ, min, Some, None, length, IfOk, OnOk, IfSome, IsErrOf};
+ghost use Rattle.sap_desk.specs.Desk.{at_number, rest_of, blamed, IsReading};
 ghost use Rattle.sap_desk.specs.Cause.{CountsOpen};
-ghost use Rattle.sap_desk.specs.Whole.{Between, FailedReading, IsFront, IsFrontOf, IsReadTo, LeftOpen, MissingOrFar, MissingOrLong, OneMore, StoodWithin, Wrote, FailedWriting, FillsFile};
+ghost use Rattle.sap_desk.specs.Whole.{Between, FailedReading, IsFront, IsFrontOf, LeftOpen, MissingOrFar, MissingOrLong, OneMore, ReadTo, StoodWithin, Wrote, FailedWriting, FillsFile};
 
 use crate::{Bytes, Desk, DeskError};
 use std::alloc::Global;
@@ -18,11 +18,9 @@ fn read_until<D: Desk>(
     ensures bytes { IfOk result (λ bytes. IfSome (D.told desk.old) (λ t. IsFront limit (rest_of t channel) bytes.items)) }
     ensures most { IfOk result (λ bytes. length bytes.items ≤ limit + 4096) }
     ensures short { IfOk result (λ bytes. length bytes.items < 2 ^ 32) }
-    ensures told { IfOk result (λ bytes. D.told desk.new ≡ option_map (moved channel (length bytes.items)) (D.told desk.old)) }
-    ensures failed { IsErrOf result DeskError.Failed → (count : ℕ) × IfSome (D.told desk.old) (λ t. IsReadTo limit (rest_of t channel) count)
-        × (D.told desk.new ≡ option_map (λ t. blamed (name_if_reading (t.uses channel)) (moved channel count t)) (D.told desk.old)) }
-    ensures memory { IsErrOf result DeskError.Memory → (count : ℕ) × IfSome (D.told desk.old) (λ t. IsReadTo limit (rest_of t channel) count)
-        × (D.told desk.new ≡ option_map (moved channel count) (D.told desk.old)) }
+    ensures told { IfOk result (λ bytes. ReadTo limit channel (length bytes.items) (λ name t. t) (D.told desk.old) (D.told desk.new)) }
+    ensures failed { IsErrOf result DeskError.Failed → (count : ℕ) × ReadTo limit channel count blamed (D.told desk.old) (D.told desk.new) }
+    ensures memory { IsErrOf result DeskError.Memory → (count : ℕ) × ReadTo limit channel count (λ name t. t) (D.told desk.old) (D.told desk.new) }
     ensures given { IfOk result (λ bytes. D.given desk.new ≡ at_number channel (D.given desk.old channel + length bytes.items) (D.given desk.old)) }
     ensures counts { CountsOpen (D.faults desk.old) (D.faults desk.new) (D.lost desk.old) (D.lost desk.new) result }
     ensures sure { D.sure desk.old → D.sure desk.new }
@@ -58,7 +56,7 @@ pub fn read_front<D: Desk>(
     ensures sure { D.sure desk.old → D.sure desk.new }
     ensures cause { IsErrOf result DeskError.Failed → D.sure desk.old → IfSome (D.told desk.old) (MissingOrFar limit name.now) }
     ensures open { IsErrOf result DeskError.Failed → D.sure desk.old → Between (D.told desk.old) (D.told desk.new) (LeftOpen name.now) }
-    ensures stood { IsErrOf result DeskError.Failed → Between (D.told desk.old) (D.told desk.new) (StoodWithin limit name.now) }
+    ensures stood { IsErrOf result DeskError.Failed → Between (D.told desk.old) (D.told desk.new) (StoodWithin (Some limit) name.now) }
     ensures given { IfOk result (λ bytes. (channel : ℕ) × (D.given desk.new ≡ at_number channel (length bytes) (D.given desk.old))) }
 {
     let channel = desk.open_in(name)?;
@@ -86,6 +84,7 @@ pub fn read_file<D: Desk>(alloc: Global, desk: &mut D, name: &str) -> Result<Byt
     ensures sure { D.sure desk.old → D.sure desk.new }
     ensures cause { IsErrOf result DeskError.Failed → D.sure desk.old → IfSome (D.told desk.old) (MissingOrLong name.now) }
     ensures open { IsErrOf result DeskError.Failed → D.sure desk.old → Between (D.told desk.old) (D.told desk.new) (LeftOpen name.now) }
+    ensures stood { IsErrOf result DeskError.Failed → Between (D.told desk.old) (D.told desk.new) (StoodWithin None name.now) }
 {
     read_front(alloc, desk, name, usize::MAX)
 }

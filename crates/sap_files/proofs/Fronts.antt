@@ -68,37 +68,50 @@ read_front_of name front a b quiet h =
     let (bytes, file, part) = found name front a.told h in
     (bytes, record { quiet = quiet; file = file }, part)
 
+-- a file could not be read
+
+not_read : (most : Option ℕ) (name : List ℕ) (F : Type 0) (t n : Told) → FailedReading name t n → StoodWithin most name t n → (F → IsUnreadable most name t)
+    → NotRead most name (failed name) F t n
+not_read most name F t n r stood why = record {
+  files = r.files;
+  output = r.channels.output;
+  same = record { lines = r.channels.lines; lines_use = r.channels.lines_use; room = r.channels.room };
+  blames = r.blame;
+  opens = (refl, stood);
+  outside = why;
+}
+
+not_read_between : (most : Option ℕ) (name : List ℕ) (F : Type 0) (old new : Option Told) → Between old new (FailedReading name) → Between old new (StoodWithin most name)
+    → (F → IfSome old (IsUnreadable most name)) → Between old new (NotRead most name (failed name) F)
+not_read_between most name F None new r stood why = tt
+not_read_between most name F (Some t) None r stood why = r
+not_read_between most name F (Some t) (Some n) r stood why = not_read most name F t n r stood why
+
+pub unread : (most : Option ℕ) (name : List ℕ) (before after : Moment) → Between before.told after.told (FailedReading name)
+    → Between before.told after.told (StoodWithin most name) → after.faults ≡ counted before.faults
+    → after.lost ≡ before.lost → (before.sure → after.sure) → (before.sure → IfSome before.told (IsUnreadable most name))
+    → Stops most name (failed name) before after
+unread most name before after r stood faults lost sure why = record {
+  free = tt;
+  told = not_read_between most name (FaultRose before after) before.told after.told r stood (λ rose. why rose.1);
+  faults = faults;
+  lost = lost;
+  sure = sure;
+}
+
 -- a design file that can't be read is missing
 
 missing : (name : List ℕ) (t : Told) → MissingOrFar most_bytes name t → IsUnreadable (Some most_bytes) name t
 missing name t (inl none) = none
 missing name t (inr far) = absurd (omega (arith, far))
 
-not_read : (name : List ℕ) (F : Type 0) (t n : Told) → FailedReading name t n → StoodWithin most_bytes name t n → (F → MissingOrFar most_bytes name t)
-    → NotRead (Some most_bytes) name (failed name) F t n
-not_read name F t n r stood far = record {
-  files = r.files;
-  output = r.channels.output;
-  same = record { lines = r.channels.lines; lines_use = r.channels.lines_use; room = r.channels.room };
-  blames = r.blame;
-  opens = (refl, stood);
-  outside = λ rose. missing name t (far rose);
-}
-
-not_read_between : (name : List ℕ) (F : Type 0) (old new : Option Told) → Between old new (FailedReading name) → Between old new (StoodWithin most_bytes name)
-    → (F → IfSome old (MissingOrFar most_bytes name)) → Between old new (NotRead (Some most_bytes) name (failed name) F)
-not_read_between name F None new r stood far = tt
-not_read_between name F (Some t) None r stood far = r
-not_read_between name F (Some t) (Some n) r stood far = not_read name F t n r stood far
+missing_of : (name : List ℕ) (o : Option Told) → IfSome o (MissingOrFar most_bytes name) → IfSome o (IsUnreadable (Some most_bytes) name)
+missing_of name None far = tt
+missing_of name (Some t) far = missing name t far
 
 pub front_unread : (name : List ℕ) (before after : Moment) → Between before.told after.told (FailedReading name)
-    → Between before.told after.told (StoodWithin most_bytes name) → after.faults ≡ counted before.faults
+    → Between before.told after.told (StoodWithin (Some most_bytes) name) → after.faults ≡ counted before.faults
     → after.lost ≡ before.lost → (before.sure → after.sure) → (before.sure → IfSome before.told (MissingOrFar most_bytes name))
     → Stops (Some most_bytes) name (failed name) before after
-front_unread name before after r stood faults lost sure far = record {
-  free = tt;
-  told = not_read_between name (FaultRose before after) before.told after.told r stood (λ rose. far rose.1);
-  faults = faults;
-  lost = lost;
-  sure = sure;
-}
+front_unread name before after r stood faults lost sure far =
+    unread (Some most_bytes) name before after r stood faults lost sure (λ s. missing_of name before.told (far s))

@@ -29,7 +29,7 @@ stays_lines : (why : FailedCall) (name : List ℕ) (text : Prints) (fault : Faul
     → StaysOpen why name text fault t gained before after
     → after 2 ≡ before 2
 stays_lines why name text fault t gained before after s =
-    ap (λ (u : ℕ → Use). u 2) s.uses ∙ ap (λ (b : Bool). cond b (reads name s.position) (before 2)) (other_number 2 s.channel s.above)
+    ap (λ (u : ℕ → Use). u 2) s.uses ∙ ap (λ (b : Bool). cond b (reads name s.asked s.position) (before 2)) (other_number 2 s.channel s.above)
 
 module _ (shows : Shows) (ls : Levels) (fs : List Field) (name : List ℕ) where
   abbrev pub text : (bytes given : List ℕ) → Type 0
@@ -195,9 +195,9 @@ module _ (name : List ℕ) (one other : (bytes given : List ℕ) → Type 0) (fi
   tells_same : (bytes : List ℕ) → TellsRefusal later bytes → TellsRefusal first bytes
   tells_same bytes (why, all) = (why, λ rest. faults (bytes ++ rest) ∙ all rest)
 
-  written_same : (why : FailedCall) (bytes : List ℕ) (count : ℕ) (gained : List ℕ) → IsWritten why one bytes count gained → IsWritten why other bytes count gained
-  written_same Input bytes count gained is = holds (take count bytes) gained is
-  written_same OnOutput bytes count gained (whole, more, is, all) = (whole, more, holds (take (count - 4096) bytes) whole is, all)
+  written_same : (why : FailedCall) (before front gained : List ℕ) → IsWritten why one before front gained → IsWritten why other before front gained
+  written_same Input before front gained is = holds front gained is
+  written_same OnOutput before front gained (whole, more, is, all) = (whole, more, holds before whole is, all)
 
   stays_same : (why : FailedCall) (t : Told) (gained : List ℕ) (before after : ℕ → Use) → StaysOpen why name one first t gained before after
       → StaysOpen why name other later t gained before after
@@ -205,12 +205,14 @@ module _ (name : List ℕ) (one other : (bytes given : List ℕ) → Type 0) (fi
     channel = s.channel;
     above = s.above;
     fresh = s.fresh;
+    asked = s.asked;
     position = s.position;
     uses = s.uses;
     bytes = s.bytes;
     file = s.file;
-    needed = λ told. s.needed (tells_same (take (s.position - 4096) s.bytes) told);
-    written = written_same why s.bytes s.position gained s.written;
+    read = s.read;
+    needed = λ told. s.needed (tells_same (take s.asked s.bytes) told);
+    written = written_same why (take s.asked s.bytes) (take s.position s.bytes) gained s.written;
   }
 
   stands_same : (t : Told) (e : Ending) (gained : List ℕ) (before after : ℕ → Use) → Stands (prints name one first) t e gained before after

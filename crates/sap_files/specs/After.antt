@@ -1,5 +1,5 @@
 -- What stands after a command by its ending: which file is blamed, what is open, and what a failed call left.
-use Rattle.std.specs.Prelude.{◌≡◌, ◌⊎◌, ℕ, List, [], take, codes, Option, Some, None}
+use Rattle.std.specs.Prelude.{◌≡◌, ◌⊎◌, ℕ, List, [], take, codes}
 use Rattle.sap_desk.specs.Desk.{Told, Use}
 use Rattle.sap_desk.specs.Whole.{OpenAfterFault, OpenWithin}
 use Rattle.sap_lines.specs.Stepping.Followed.{blamed_for}
@@ -17,22 +17,18 @@ Blames before blame (refused why) = blame ≡ before
 Blames before blame (failed name) = blame ≡ name
 Blames before blame no_memory = blame ≡ before
 
--- what is open after a failed call on a file that is read to its end, or until more bytes were got than these: of the second, its channel is no further
-abbrev pub OpenUnread : (most : Option ℕ) → (name : List ℕ) → Told → (before after : ℕ → Use) → Type 0
-OpenUnread None name t before after = OpenAfterFault name before after
-OpenUnread (Some most) name t before after = OpenWithin most name t before after
-
 -- this is the beginning of what these bytes give
 abbrev pub IsBegun : Prints → (bytes gained : List ℕ) → Type 0
 IsBegun text bytes gained = (whole : List ℕ) × text bytes whole × IsPrefix gained whole
 
 -- What stands after a failed call, which blames this: what is open, and what channel 1 gained. After one on a file that is read, or written, whole it is what was open
--- before, and that call's channel too, if it has one, and nothing was gained; that of a design stands as `OpenWithin` has it. Where a stimulus is printed line by
+-- before, and that call's channel too, if it has one, and nothing was gained; a file that is read stands as `OpenWithin` has it. Where a stimulus is printed line by
 -- line, nothing was gained and nothing more is open if it could not be opened; else its channel is open too, after a call on the output as well, since no further call is
 -- made, and how far it was read, and what was written by then, is as `StaysOpen` has it: the beginning of what the bytes give that were read.
 abbrev pub StandsFailed : Asks → Told → (blamed gained : List ℕ) → (before after : ℕ → Use) → Type 0
 StandsFailed (file name k rest) t blamed gained before after =
-    ((blamed ≡ name) × (gained ≡ []) × OpenUnread k.most name t before after) ⊎ ((v : k.Value) × Has t name k.Stands v × StandsFailed (rest v) t blamed gained before after)
+    ((blamed ≡ name) × (gained ≡ []) × OpenWithin k.most name t before after)
+    ⊎ ((v : k.Value) × Has t name k.Stands v × StandsFailed (rest v) t blamed gained before after)
 StandsFailed (by V Holds rest) t blamed gained before after = (v : V) × Holds v × StandsFailed (rest v) t blamed gained before after
 StandsFailed (gives text) t blamed gained before after = (blamed ≡ codes "output") × (after ≡ before)
 StandsFailed (prints name text fault) t blamed gained before after =

@@ -2,7 +2,7 @@
 use Rattle.std.specs.Prelude.{◌≡◌, ◌≢◌, ◌⊎◌, ◌++◌, ℕ, List, length, Option, Some, None, Result, Ok, Err, IfSome}
 use Rattle.sap_desk.specs.Desk.{Told, Use}
 use Rattle.sap_desk.specs.Cause.{counted}
-use Rattle.sap_desk.specs.Whole.{Between, IsFront}
+use Rattle.sap_desk.specs.Whole.{Between, IsFront, OpenWithin}
 use Rattle.sap_lattice.specs.Levels.{Levels, order_of}
 use Rattle.sap_latfile.specs.declared.fault.LatFileFault.{LatFileFault}
 use Rattle.sap_latfile.specs.declared.fault.LatFileFault.TheVariants as lattice_fault
@@ -29,7 +29,7 @@ use Rattle.sap_stim.specs.Stimulus.{stimulus_of}
 use Rattle.sap_lines.specs.Stepping.Followed.{IsPartShown}
 use Rattle.sap_lines.specs.Stepping.Pace.{Shows as ShowsOf}
 use Rattle.sap_files.specs.Asks.{Asks, Cause, IsPrefix, Leaves, MayEnd, Output}
-use Rattle.sap_files.specs.After.{Blames, OpenUnread, Stands}
+use Rattle.sap_files.specs.After.{Blames, Stands}
 use Rattle.sap_files.specs.Outside.{IsUnreadable, OutsideOf}
 use Rattle.sap_files.specs.declared.files.LatticeFile.{LatticeFile}
 use Rattle.sap_files.specs.declared.failure.Failure.{Failure}
@@ -148,7 +148,7 @@ pub record Ends (a : Asks) (e : Ending) (before after : Moment) : Type 0 where
 abbrev pub OpensUnread : (most : Option ℕ) → (name : List ℕ) → Ending → Told → (before after : ℕ → Use) → Type 0
 OpensUnread most name done t before after = after ≡ before
 OpensUnread most name (refused why) t before after = after ≡ before
-OpensUnread most name (failed blamed) t before after = (blamed ≡ name) × OpenUnread most name t before after
+OpensUnread most name (failed blamed) t before after = (blamed ≡ name) × OpenWithin most name t before after
 OpensUnread most name no_memory t before after = after ≡ before
 
 -- a file could not be read: all is as before but the blame, and what a failed call left open

@@ -1,9 +1,9 @@
 -- What an answer says, once the next line was told.
-use Rattle.sap_lemmas.proofs.Common.{◌≡◌, ℕ, ◌+◌, ◌-◌, ◌<◌, Bool, false, List, [], ◌++◌, length, length-append, take, drop, append_assoc, refl, sym, ap, ◌∙◌, subst, inl, inr, arith, ◌⊎◌, ◌^◌, IsTrue, Option, Some, None, IfSome}
-use Rattle.sap_desk.specs.Desk.{Told, moved, name_if_reading, rest_of}
+use Rattle.sap_lemmas.proofs.Common.{◌≡◌, ℕ, ◌+◌, ◌-◌, ◌<◌, Bool, false, List, [], ◌++◌, length, length-append, take, drop, append_assoc, refl, sym, ap, ◌∙◌, subst, inl, inr, arith, ◌⊎◌, ◌^◌, IsTrue, Option, Some, None, IfSome, take_all}
+use Rattle.sap_desk.specs.Desk.{Told, name_if_reading, read_on, rest_of}
 use Rattle.sap_desk.specs.Cause.{counted}
 use Rattle.sap_desk.specs.Whole.{Between}
-use Rattle.sap_desk.proofs.Steps.{option_map-same, rest-moved}
+use Rattle.sap_desk.proofs.Steps.{option_map-same, rest-read_on}
 use Rattle.sap_lattice.specs.Levels.{Levels}
 use Rattle.sap_stream.specs.Spans.{Span}
 use Rattle.sap_stim.specs.declared.field.Field.{Field}
@@ -13,8 +13,8 @@ use Rattle.sap_lines.specs.declared.next.Next.{Next}
 use Rattle.sap_lines.specs.declared.next.Next.TheVariants.{Line, End, Fault, Failed}
 use Rattle.sap_lines.specs.Answers.{is_failed, is_line, count_after, BeginsWith, Tells, TellsBy, ReadOn, blamed_by}
 use Rattle.sap_lines.specs.Reader.{Reader, to_come}
-use Rattle.sap_lines.specs.Fetched.{IsDecided, EndsOrDecided, More}
-use Rattle.sap_lines.proofs.Reading.{read_count}
+use Rattle.sap_lines.specs.Fetched.{IsDecided, EndsOrDecided, More, MoreAndFailed}
+use Rattle.sap_lines.proofs.Reading.{failed_named, read_count, reads_least}
 
 -- the count of lines is that of the next
 tells_after : (next : Next) (count : ℕ) (p q : Parsed) (of : ℕ → Parsed) (line : Span) → count < 2 ^ 32 → Tells next p line (of (count + 2))
@@ -32,10 +32,10 @@ pub told_lines : (ls : Levels) (fs : List Field) (channel count : ℕ) (held now
     (read_from ls fs (count_after next count + 1) (later ++ rest_of n channel)))
 told_lines ls fs channel count held now later line next None told_now g h m decided tells small = tt
 told_lines ls fs channel count held now later line next (Some t) None g h m decided tells small =
-    absurd (let e : None ≡ Some (moved channel m.count t) = m.told in let f : ⊥ = cc in f)
+    absurd (let e : None ≡ Some (read_on channel m.asked m.count t) = m.told in let f : ⊥ = cc in f)
 told_lines ls fs channel count held now later line next (Some t) (Some n) g h m decided tells small =
-    let moved_on : n ≡ moved channel m.count t = (let e : Some n ≡ Some (moved channel m.count t) = m.told in cc) in
-    let left : rest_of n channel ≡ drop m.count (rest_of t channel) = ap (λ (x : Told). rest_of x channel) moved_on ∙ rest-moved channel m.count t in
+    let moved_on : n ≡ read_on channel m.asked m.count t = (let e : Some n ≡ Some (read_on channel m.asked m.count t) = m.told in cc) in
+    let left : rest_of n channel ≡ drop m.count (rest_of t channel) = ap (λ (x : Told). rest_of x channel) moved_on ∙ rest-read_on channel m.asked m.count t in
     let same : now ++ rest_of n channel ≡ held ++ rest_of t channel = ap (λ (r : List ℕ). now ++ r) left ∙ m.bytes in
     let here : Tells next (read_from ls fs (count + 1) (now ++ rest_of n channel)) line (read_from ls fs (count + 2) (later ++ rest_of n channel)) =
     tells (rest_of n channel) decided small in
@@ -161,10 +161,27 @@ blames_none End channel name t fine = refl
 blames_none (Fault fault) channel name t fine = refl
 blames_none Failed channel name t fine = absurd (let f : ⊥ = cc in f)
 
-pub read_on : (next : Next) (channel : ℕ) (held now : List ℕ) (told told_now : Option Told) (g h : ℕ → ℕ) → is_failed next ≡ false
-    → More channel held now told told_now g h → ReadOn next channel told told_now g h
-read_on next channel held now told told_now g h fine m = record {
+pub answered_on : (next : Next) (channel : ℕ) (held now : List ℕ) (told told_now : Option Told) (g h : ℕ → ℕ) → is_failed next ≡ false
+    → More channel held now told told_now g h → ReadOn next channel held told told_now g h
+answered_on next channel held now told told_now g h fine m = record {
+  asked = m.asked;
   count = m.count;
-  told = m.told ∙ option_map-same _ _ told (λ t. blames_none next channel (name_if_reading (t.uses channel)) (moved channel m.count t) fine);
+  least = reads_least channel m.count held now m.asked told m.size m.bytes m.least;
+  told = m.told ∙ option_map-same _ _ told (λ t. blames_none next channel (name_if_reading (t.uses channel)) (read_on channel m.asked m.count t) fine);
+  given = m.given;
+}
+
+-- a read failed, which was asked for behind bytes that don't tell the line
+pub failed_on : (channel : ℕ) (held now : List ℕ) (told told_now : Option Told) (g h : ℕ → ℕ) → MoreAndFailed channel held now told told_now g h → (IsDecided now → ⊥)
+    → ReadOn Failed channel held told told_now g h
+failed_on channel held now told told_now g h m undecided = record {
+  asked = Some m.count;
+  count = m.count;
+  least = reads_least channel m.count held now (Some m.count) told m.size m.bytes (
+    omega (arith, m.size),
+    omega (arith, m.size),
+    λ decided. undecided (subst IsDecided (take_all (length held + m.count) now (omega (arith, m.size))) decided),
+  );
+  told = m.told ∙ option_map-same _ _ told (failed_named channel m.count);
   given = m.given;
 }

@@ -4,5 +4,4 @@ pub mod Reading
 pub mod Answered
 pub mod Following
 pub mod Undecided
-pub mod Fronts
 pub mod Shifting

@@ -43,13 +43,6 @@ no_end ls fs s fits = let e : nat_lt 65536 (length s) ≡ false = le-ltb 65536 (
 too_long : (ls : Levels) (fs : List Field) (s : List ℕ) → 65536 < length s → line_of ls fs false s ≡ Err S1
 too_long ls fs s long = let e : nat_lt 65536 (length s) ≡ true = lt-ltb 65536 (length s) long in rw e refl
 
--- it gives no cycles, however long it is
-pub none_unmarked : (ls : Levels) (fs : List Field) (n : ℕ) (s : List ℕ) → 0 < length s → length s ≤ place s → (read_from ls fs n s).stream ≡ []
-none_unmarked ls fs n s some none = elim (cases_lt 65536 (length s)) [
-  | inl long ↦ ap (λ (p : Parsed). p.stream) (unended ls fs n s S1 some none (too_long ls fs s long))
-  | inr fits ↦ ap (λ (p : Parsed). p.stream) (unended ls fs n s S5 some none (no_end ls fs s (omega (arith, fits))))
-]
-
 -- more of an unmarked line may come
 
 no_marks : (n : ℕ) → place (replicate n 0) ≡ n

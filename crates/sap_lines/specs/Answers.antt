@@ -1,8 +1,8 @@
 -- What each answer of a reader says.
-use Rattle.std.specs.Prelude.{◌≡◌, ℕ, ◌+◌, ◌⊎◌, List, [], ◌++◌, ◌==◌, length, Bool, true, false, IsTrue, Option, Some, Ok, option_map}
+use Rattle.std.specs.Prelude.{◌≡◌, ℕ, ◌+◌, ◌⊎◌, List, [], ◌++◌, ◌==◌, length, Bool, true, false, IsTrue, Option, Some, Ok, IfSome, option_map}
 use Rattle.std.specs.List.{after_first, before_first, list_any}
 use Rattle.sap_desk.specs.Cause.{counted}
-use Rattle.sap_desk.specs.Desk.{Told, at_number, blame_at, moved, name_if_reading}
+use Rattle.sap_desk.specs.Desk.{Told, at_number, blame_at, name_if_reading, read_on}
 use Rattle.sap_lattice.specs.Levels.{Levels}
 use Rattle.sap_stream.specs.Spans.{Span}
 use Rattle.sap_stim.specs.declared.field.Field.{Field}
@@ -11,6 +11,7 @@ use Rattle.sap_stim.specs.Line.{line_of}
 use Rattle.sap_stim.specs.Stimulus.{ahead, finished}
 use Rattle.sap_lines.specs.declared.next.Next.{Next}
 use Rattle.sap_lines.specs.declared.next.Next.TheVariants.{Line, End, Fault, Failed}
+use Rattle.sap_lines.specs.Fetched.{ReadsLeast}
 use Rattle.sap_lines.specs.Reader.{Reader, to_come}
 
 abbrev pub is_line : Next → Bool
@@ -82,8 +83,11 @@ blamed_by End channel name t = t
 blamed_by (Fault fault) channel name t = t
 blamed_by Failed channel name t = blame_at channel name t
 
--- so many bytes more were read of a channel, and nothing else changed but the blame
-pub record ReadOn (next : Next) (channel : ℕ) (told_was told_now : Option Told) (given_was given_now : ℕ → ℕ) : Type 0 where
+-- So many bytes more were read of a channel, and nothing else changed but the blame. A piece was asked for only where all lines that end in the bytes read before it were
+-- taken.
+pub record ReadOn (next : Next) (channel : ℕ) (pending : List ℕ) (told_was told_now : Option Told) (given_was given_now : ℕ → ℕ) : Type 0 where
+  pub asked : Option ℕ
   pub count : ℕ
-  pub told : told_now ≡ option_map (λ t. blamed_by next channel (name_if_reading (t.uses channel)) (moved channel count t)) told_was
+  pub least : IfSome told_was (ReadsLeast channel pending asked count)
+  pub told : told_now ≡ option_map (λ t. blamed_by next channel (name_if_reading (t.uses channel)) (read_on channel asked count t)) told_was
   pub given : given_now ≡ at_number channel (given_was channel + count) given_was

@@ -1,7 +1,8 @@
 -- Bytes that were read of a channel, and held.
-use Rattle.std.specs.Prelude.{◌≡◌, ◌≢◌, ℕ, ◌+◌, ◌-◌, ◌<◌, ◌≤◌, ◌⊎◌, List, [], ◌++◌, ◌==◌, drop, take, length, slice_index_or, true, Option, IfSome, option_map}
+use Rattle.std.specs.Prelude.{◌≡◌, ◌≢◌, ℕ, ◌+◌, ◌-◌, ◌<◌, ◌≤◌, ◌⊎◌, List, [], ◌++◌, ◌==◌, drop, take, length, slice_index_or, true, Option, Some, None, IfSome, option_map}
 use Rattle.std.specs.List.{list_any}
-use Rattle.sap_desk.specs.Desk.{Told, at_number, blame_at, moved, name_if_reading, rest_of}
+use Rattle.sap_desk.specs.Desk.{Told, at_number, blame_at, name_if_reading, read_on, rest_of}
+use Rattle.sap_desk.specs.Whole.{IsReadTo}
 
 -- No LF stands from the place `ended` on; and where that is behind `start`, one stands right before it.
 pub record EndsAt (start ended : ℕ) (bytes : List ℕ) : Type 0 where
@@ -17,20 +18,24 @@ IsDecided bytes = (65536 < length bytes) ⊎ (list_any (λ b. b == 10) bytes ≡
 abbrev pub EndsOrDecided : (channel : ℕ) → List ℕ → Told → Type 0
 EndsOrDecided channel bytes t = IsDecided bytes ⊎ (rest_of t channel ≡ [])
 
--- Nothing more is held; or what was held before the last piece didn't tell the line: no byte is read behind what tells it, but for the rest of a piece.
-abbrev pub HoldsLeast : (held now : List ℕ) → Type 0
-HoldsLeast held now = (now ≡ held) ⊎ ((k : ℕ) × (length held ≤ k) × (k < length now) × (length now ≤ k + 4096) × (¬ IsDecided (take k now)))
+-- Where the last piece was asked for, behind the bytes that were held: these and so many more didn't tell the line, and all others are of that piece. Where none was asked
+-- for, nothing more is held.
+abbrev pub HoldsLeast : (held now : List ℕ) → (asked : Option ℕ) → Type 0
+HoldsLeast held now None = now ≡ held
+HoldsLeast held now (Some few) = (length held + few ≤ length now) × (length now ≤ length held + few + 4096) × (¬ IsDecided (take (length held + few) now))
 
--- so said of what is read of a channel behind the bytes that are pending
-abbrev pub ReadsLeast : (channel : ℕ) → (pending : List ℕ) → (count : ℕ) → Told → Type 0
-ReadsLeast channel pending count t =
-    (count ≡ 0) ⊎ ((k : ℕ) × (k < count) × (count ≤ k + 4096) × (¬ IsDecided (pending ++ take k (rest_of t channel))))
+-- The same of what is read of a channel behind the bytes that are pending.
+abbrev pub ReadsLeast : (channel : ℕ) → (pending : List ℕ) → (asked : Option ℕ) → (count : ℕ) → Told → Type 0
+ReadsLeast channel pending None count t = count ≡ 0
+ReadsLeast channel pending (Some few) count t = IsReadTo None (rest_of t channel) few count × (¬ IsDecided (pending ++ take few (rest_of t channel)))
 
 -- so many bytes more were read of a channel, behind those that were held, and nothing else changed
 pub record More (channel : ℕ) (held now : List ℕ) (told_was told_now : Option Told) (given_was given_now : ℕ → ℕ) : Type 0 where
+  pub asked : Option ℕ
+  pub least : HoldsLeast held now asked
   pub count : ℕ
   pub size : length now ≡ length held + count
-  pub told : told_now ≡ option_map (moved channel count) told_was
+  pub told : told_now ≡ option_map (read_on channel asked count) told_was
   pub bytes : IfSome told_was (λ t. now ++ drop count (rest_of t channel) ≡ held ++ rest_of t channel)
   pub given : given_now ≡ at_number channel (given_was channel + count) given_was
 
@@ -38,10 +43,10 @@ pub record More (channel : ℕ) (held now : List ℕ) (told_was told_now : Optio
 abbrev pub read_failed : (channel : ℕ) → Told → Told
 read_failed channel t = blame_at channel (name_if_reading (t.uses channel)) t
 
--- bytes were read, and then a read failed
+-- Bytes were read, and then a read failed, which was asked for behind them all.
 pub record MoreAndFailed (channel : ℕ) (held now : List ℕ) (told_was told_now : Option Told) (given_was given_now : ℕ → ℕ) : Type 0 where
   pub count : ℕ
   pub size : length now ≡ length held + count
-  pub told : told_now ≡ option_map (λ t. read_failed channel (moved channel count t)) told_was
+  pub told : told_now ≡ option_map (λ t. read_failed channel (read_on channel (Some count) count t)) told_was
   pub bytes : IfSome told_was (λ t. now ++ drop count (rest_of t channel) ≡ held ++ rest_of t channel)
   pub given : given_now ≡ at_number channel (given_was channel + count) given_was

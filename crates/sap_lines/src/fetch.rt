@@ -2,7 +2,7 @@
 
 ghost use Rattle.std.specs.Prelude.{◌≡◌, ◌≢◌, ◌<◌, ◌^◌, ◌↔◌, ◌++◌, ℕ, List, IsTrue, OnOk, OnErr, IfSome};
 ghost use Rattle.sap_desk.specs.Cause.{CountsAt, FailsToRead};
-ghost use Rattle.sap_lines.specs.Fetched.{EndsOrDecided, HoldsLeast, IsDecided, More, MoreAndFailed};
+ghost use Rattle.sap_lines.specs.Fetched.{EndsOrDecided, IsDecided, More, MoreAndFailed};
 
 use crate::PIECE_BYTES;
 use crate::held::Held;
@@ -22,7 +22,6 @@ fn read_pieces<D: Desk>(held: &mut Held, desk: &mut D, channel: usize) -> Result
     ensures more { OnOk result (More channel held.old held.new (D.told desk.old) (D.told desk.new) (D.given desk.old) (D.given desk.new)) }
     ensures behind { (piece : List ℕ) × (held.new ≡ held.old ++ piece) }
     ensures decided { OnOk result (IfSome (D.told desk.new) (EndsOrDecided channel held.new)) }
-    ensures least { HoldsLeast held.old held.new }
     ensures wanted { OnErr result (¬ IsDecided held.new) }
     ensures failed { OnErr result (MoreAndFailed channel held.old held.new (D.told desk.old) (D.told desk.new) (D.given desk.old) (D.given desk.new)) }
     ensures bounded { D.given desk.old channel < 2 ^ 32 → D.given desk.new channel < 2 ^ 32 }
@@ -48,7 +47,6 @@ pub fn fetch<D: Desk>(held: &mut Held, desk: &mut D, channel: usize) -> Result<(
     ensures more { OnOk result (More channel held.old held.new (D.told desk.old) (D.told desk.new) (D.given desk.old) (D.given desk.new)) }
     ensures behind { (piece : List ℕ) × (held.new ≡ held.old ++ piece) }
     ensures decided { OnOk result (IfSome (D.told desk.new) (EndsOrDecided channel held.new)) }
-    ensures least { HoldsLeast held.old held.new }
     ensures wanted { OnErr result (¬ IsDecided held.new) }
     ensures still { IsDecided held.old → (held.new ≡ held.old) × (desk.new ≡ desk.old) }
     ensures failed { OnErr result (MoreAndFailed channel held.old held.new (D.told desk.old) (D.told desk.new) (D.given desk.old) (D.given desk.new)) }

@@ -8,7 +8,7 @@ ghost use Rattle.sap_stim.specs.Fits.{LineFits};
 ghost use Rattle.sap_stim.specs.Line.{IsSized};
 ghost use Rattle.sap_stream.specs.Spans.{IsCount};
 ghost use Rattle.sap_lines.specs.Answers.{Counted, ReadOn, TakesLine, TakesSome, Tells, TellsBy, TellsSome, count_after, is_failed, is_line};
-ghost use Rattle.sap_lines.specs.Fetched.{IsDecided, ReadsLeast};
+ghost use Rattle.sap_lines.specs.Fetched.{IsDecided};
 ghost use Rattle.sap_lines.specs.Reader.{Backed, IsNew, to_come};
 ghost use Rattle.sap_lines.specs.declared.TheConstants.{PIECE_BYTES};
 
@@ -120,8 +120,7 @@ impl Lines {
         ensures fields { self.new.fields ≡ self.old.fields }
         ensures count { self.new.count ≡ count_after result self.old.count }
         // What becomes of the desk.
-        ensures read { ReadOn result channel (D.told desk.old) (D.told desk.new) (D.given desk.old) (D.given desk.new) }
-        ensures least { IfSome (D.told desk.old) (ReadsLeast channel self.old.pending (D.given desk.new channel - D.given desk.old channel)) }
+        ensures read { ReadOn result channel self.old.pending (D.told desk.old) (D.told desk.new) (D.given desk.old) (D.given desk.new) }
         ensures still { IsDecided self.old.pending → desk.new ≡ desk.old }
         ensures wanted { IsTrue (is_failed result) → IfSome (D.told desk.old)
             (λ t. ¬ IsDecided (self.old.pending ++ take (D.given desk.new channel - D.given desk.old channel) (rest_of t channel))) }

@@ -1,12 +1,12 @@
 -- What reading a channel and writing on channel 1 make of a desk, one after another.
-use Rattle.sap_lemmas.proofs.Common.{◌≡◌, ◌≢◌, ℕ, ◌+◌, ◌<◌, true, false, List, [], ◌∷◌, ◌++◌, length, append_assoc, refl, sym, ◌∙◌, ap, arith, eqb, Option, unwrap_or, cond, Bool, drop, nat_tests, append-nil}
-use Rattle.sap_desk.specs.Desk.{Told, Use, reads, writes, closed, stream, IsReading, added, at_number, blamed, moved, moved_use, rest_of, rest_of_use}
-use Rattle.sap_desk.proofs.Steps.{at_number-keeps, at_number-same, moved-none, moved-twice, other_number}
+use Rattle.sap_lemmas.proofs.Common.{◌≡◌, ◌≢◌, ℕ, ◌+◌, ◌<◌, true, false, List, [], ◌∷◌, ◌++◌, length, append_assoc, refl, sym, ◌∙◌, ap, arith, eqb, Option, Some, None, unwrap_or, cond, Bool, drop, nat_tests, append-nil}
+use Rattle.sap_desk.specs.Desk.{Told, Use, reads, writes, closed, stream, IsReading, added, at_number, blamed, read_on, read_on_use, rest_of, rest_of_use}
+use Rattle.sap_desk.proofs.Steps.{at_number-keeps, at_number-same, last_asked, other_number, read_on-none, read_on-twice}
 use Rattle.sap_lines.specs.Stepping.Followed.{Going}
 
-pub going_none : (channel : ℕ) (t : Told) → Going channel 0 [] t t
+pub going_none : (channel : ℕ) (t : Told) → Going channel None 0 [] t t
 going_none channel t = record {
-  uses = ap (λ (x : Told). x.uses) (sym (moved-none channel t));
+  uses = ap (λ (x : Told). x.uses) (sym (read_on-none channel t));
   files = refl;
   output = sym (append-nil (t.written 1));
   others = λ k other. refl;
@@ -19,25 +19,26 @@ others_added piece t m others k other =
     let no : eqb k 1 ≡ false = grind (arith, nat_tests) in
     ap (λ (b : Bool). cond b (m.written 1 ++ piece) (m.written k)) no ∙ others k other
 
-module _ (channel count : ℕ) (gained : List ℕ) (t m : Told) (going : Going channel count gained t m) where
-  uses_more : (k : ℕ) → (moved channel k m).uses ≡ at_number channel (moved_use (count + k) (t.uses channel)) t.uses
-  uses_more k =
-      ap (λ (u : ℕ → Use). at_number channel (moved_use k (u channel)) u) going.uses
-      ∙ ap (λ (x : Told). x.uses) (moved-twice channel count k t)
+module _ (channel : ℕ) (first : Option ℕ) (count : ℕ) (gained : List ℕ) (t m : Told) (going : Going channel first count gained t m) where
+  uses_more : (asked : Option ℕ) (k : ℕ) → (read_on channel asked k m).uses ≡ at_number channel (read_on_use (last_asked first count asked) (count + k) (t.uses channel)) t.uses
+  uses_more asked k =
+      ap (λ (u : ℕ → Use). at_number channel (read_on_use asked k (u channel)) u) going.uses
+      ∙ ap (λ (x : Told). x.uses) (read_on-twice channel first asked count k t)
 
-  pub going_read : (k : ℕ) → Going channel (count + k) gained t (moved channel k m)
-  going_read k = record { uses = uses_more k; files = going.files; output = going.output; others = going.others; room = going.room }
+  pub going_read : (asked : Option ℕ) (k : ℕ) → Going channel (last_asked first count asked) (count + k) gained t (read_on channel asked k m)
+  going_read asked k = record { uses = uses_more asked k; files = going.files; output = going.output; others = going.others; room = going.room }
 
-  pub going_more : (k : ℕ) (piece : List ℕ) → Going channel (count + k) (gained ++ piece) t (added 1 piece (moved channel k m))
-  going_more k piece = record {
-    uses = uses_more k;
+  pub going_more : (asked : Option ℕ) (k : ℕ) (piece : List ℕ)
+      → Going channel (last_asked first count asked) (count + k) (gained ++ piece) t (added 1 piece (read_on channel asked k m))
+  going_more asked k piece = record {
+    uses = uses_more asked k;
     files = going.files;
     output = ap (λ (l : List ℕ). l ++ piece) going.output ∙ append_assoc (t.written 1) gained piece;
     others = others_added piece t m going.others;
     room = going.room;
   }
 
-  pub going_added : (piece : List ℕ) → Going channel count (gained ++ piece) t (added 1 piece m)
+  pub going_added : (piece : List ℕ) → Going channel first count (gained ++ piece) t (added 1 piece m)
   going_added piece = record {
     uses = going.uses;
     files = going.files;
@@ -46,34 +47,37 @@ module _ (channel count : ℕ) (gained : List ℕ) (t m : Told) (going : Going c
     room = going.room;
   }
 
-  pub use_now : m.uses channel ≡ moved_use count (t.uses channel)
-  use_now = ap (λ (u : ℕ → Use). u channel) going.uses ∙ at_number-same channel (moved_use count (t.uses channel)) t.uses
+  pub use_now : m.uses channel ≡ read_on_use first count (t.uses channel)
+  use_now = ap (λ (u : ℕ → Use). u channel) going.uses ∙ at_number-same channel (read_on_use first count (t.uses channel)) t.uses
 
   pub output_use : 2 < channel → m.uses 1 ≡ t.uses 1
   output_use above =
       let other = other_number 1 channel (omega arith) in
-      ap (λ (u : ℕ → Use). u 1) going.uses ∙ ap (λ (b : Bool). cond b (moved_use count (t.uses channel)) (t.uses 1)) other
+      ap (λ (u : ℕ → Use). u 1) going.uses ∙ ap (λ (b : Bool). cond b (read_on_use first count (t.uses channel)) (t.uses 1)) other
 
-pub going_blamed : (channel count : ℕ) (gained name : List ℕ) (t m : Told) → Going channel count gained t m → Going channel count gained t (blamed name m)
-going_blamed channel count gained name t m g = record { uses = g.uses; files = g.files; output = g.output; others = g.others; room = g.room }
+pub going_blamed : (channel : ℕ) (asked : Option ℕ) (count : ℕ) (gained name : List ℕ) (t m : Told) → Going channel asked count gained t m
+    → Going channel asked count gained t (blamed name m)
+going_blamed channel asked count gained name t m g = record { uses = g.uses; files = g.files; output = g.output; others = g.others; room = g.room }
 
-pub reading_moved : (n : ℕ) (u : Use) → IsReading u → IsReading (moved_use n u)
-reading_moved n (reads name p) h = tt
-reading_moved n (writes name) h = h
-reading_moved n closed h = h
-reading_moved n stream h = h
+pub reading_on : (asked : Option ℕ) (n : ℕ) (u : Use) → IsReading u → IsReading (read_on_use asked n u)
+reading_on None n (reads name q p) h = tt
+reading_on (Some few) n (reads name q p) h = tt
+reading_on asked n (writes name) h = absurd h
+reading_on asked n closed h = absurd h
+reading_on asked n stream h = absurd h
 
 rest_same : (m n : Told) (u : Use) → m.files ≡ n.files → rest_of_use m u ≡ rest_of_use n u
-rest_same m n (reads name p) is = ap (λ (files : List ℕ → Option (List ℕ)). drop p (unwrap_or (files name) [])) is
+rest_same m n (reads name q p) is = ap (λ (files : List ℕ → Option (List ℕ)). drop p (unwrap_or (files name) [])) is
 rest_same m n (writes name) is = refl
 rest_same m n closed is = refl
 rest_same m n stream is = refl
 
 -- what is left to read
-pub rest_now : (channel count : ℕ) (gained : List ℕ) (t m : Told) → Going channel count gained t m → rest_of m channel ≡ rest_of (moved channel count t) channel
-rest_now channel count gained t m g =
+pub rest_now : (channel : ℕ) (asked : Option ℕ) (count : ℕ) (gained : List ℕ) (t m : Told) → Going channel asked count gained t m
+    → rest_of m channel ≡ rest_of (read_on channel asked count t) channel
+rest_now channel asked count gained t m g =
     ap (λ (u : ℕ → Use). rest_of_use m (u channel)) g.uses
-    ∙ rest_same m (moved channel count t) (at_number channel (moved_use count (t.uses channel)) t.uses channel) g.files
+    ∙ rest_same m (read_on channel asked count t) (at_number channel (read_on_use asked count (t.uses channel)) t.uses channel) g.files
 
 -- no byte is written
 

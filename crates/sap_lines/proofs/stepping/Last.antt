@@ -9,7 +9,7 @@ use Rattle.sap_stim.specs.declared.field.Field.{Field}
 use Rattle.sap_stim.specs.declared.stimulus.Parsed.{Parsed}
 use Rattle.sap_stim.specs.Stimulus.{stimulus_of}
 use Rattle.sap_lines.specs.declared.stepping.stopped.FailedCall.TheVariants.{Output}
-use Rattle.sap_lines.specs.Stepping.Followed.{Broken, FailsFor, Followed, GoesTooFar}
+use Rattle.sap_lines.specs.Stepping.Followed.{Broken, FailsFor, Followed, GoesTooFar, last_place}
 use Rattle.sap_lines.specs.Stepping.Pace.{Shows, printed_fault}
 use Rattle.sap_lines.proofs.stepping.Between.{known_after, onward}
 use Rattle.sap_lines.proofs.stepping.Going.{going_added, going_blamed, output_use}
@@ -18,14 +18,16 @@ use Rattle.sap_lines.proofs.stepping.Pace.{written_more}
 module _ (shows : Shows) (ls : Levels) (fs : List Field) (channel : ℕ) (fault : Option StimFault) (waiting : List ℕ) where
   last_written : (t m : Told) → Followed shows ls fs channel fault waiting t m → Followed shows ls fs channel fault [] t (added 1 waiting m)
   last_written t m f = record {
+    asked = f.asked;
     count = f.count;
     gained = f.gained ++ waiting;
-    going = going_added channel f.count f.gained t m f.going waiting;
+    going = going_added channel f.asked f.count f.gained t m f.going waiting;
+    read = f.read;
     is_fault = f.is_fault;
     shown = subst (shows (stimulus_of ls fs (rest_of t channel)).stream) (sym (append-nil (f.gained ++ waiting))) f.shown;
     enough = f.enough;
     needed = f.needed;
-    written = written_more shows ls fs (rest_of t channel) f.count f.gained waiting f.written;
+    written = written_more shows ls fs (rest_of t channel) f.count (last_place f.asked) f.gained waiting f.written;
     blame = f.blame;
   }
 
@@ -46,10 +48,12 @@ module _ (shows : Shows) (ls : Levels) (fs : List Field) (channel : ℕ) (fault 
       let whole : (f.gained ++ take part waiting) ++ drop part waiting ≡ f.gained ++ waiting
       = append_assoc f.gained (take part waiting) (drop part waiting) ∙ ap (λ (l : List ℕ). f.gained ++ l) (take-append-drop part waiting) in
       record {
+        asked = f.asked;
         count = f.count;
         gained = f.gained ++ take part waiting;
-        going = going_blamed channel f.count (f.gained ++ take part waiting) (codes "output") t (added 1 (take part waiting) m)
-            (going_added channel f.count f.gained t m f.going (take part waiting));
+        going = going_blamed channel f.asked f.count (f.gained ++ take part waiting) (codes "output") t (added 1 (take part waiting) m)
+            (going_added channel f.asked f.count f.gained t m f.going (take part waiting));
+        read = f.read;
         part = record {
           lines = stream;
           more = [];
@@ -65,7 +69,7 @@ module _ (shows : Shows) (ls : Levels) (fs : List Field) (channel : ℕ) (fault 
           shown = subst (λ (p : Parsed). shows p.stream ((f.gained ++ take part waiting) ++ drop part waiting)) (sym f.enough) (subst (shows stream) (sym whole) f.shown);
         };
         needed = f.needed;
-        written = written_more shows ls fs (rest_of t channel) f.count f.gained (take part waiting) f.written;
+        written = written_more shows ls fs (rest_of t channel) f.count (last_place f.asked) f.gained (take part waiting) f.written;
         blame = refl;
       }
 
@@ -79,7 +83,7 @@ module _ (shows : Shows) (ls : Levels) (fs : List Field) (channel : ℕ) (fault 
   last_cause : 2 < channel → (part : ℕ) (t m : Told) → Followed shows ls fs channel fault waiting t m
       → (IsWriting (m.uses 1) → FillsRoom 1 waiting m (Some (cut_at part m))) → FailsFor (GoesTooFar (printed_fault ls fs) channel) Output t (cut_at part m)
   last_cause above part t m f full =
-      λ writing. (full (subst IsWriting (sym (output_use channel f.count f.gained t m f.going above)) writing)).full
+      λ writing. (full (subst IsWriting (sym (output_use channel f.asked f.count f.gained t m f.going above)) writing)).full
 
   pub whole_cause : 2 < channel → (before mid one : Option Told) → CutOutput waiting mid one
       → IfSome mid (λ m. IsWriting (m.uses 1) → FillsRoom 1 waiting m one) → Between before mid (Followed shows ls fs channel fault waiting)

@@ -1,7 +1,7 @@
 -- A stimulus that was opened, followed and finished, or not to its end.
 use Rattle.sap_lemmas.proofs.Common.{◌≡◌, ℕ, ◌+◌, ◌<◌, List, [], ◌++◌, refl, sym, take, ◌∙◌, ap, subst, inl, inr, arith, Bool, cond, Option, Some, None, IfSome, IsSome, option_map, append-nil}
-use Rattle.sap_desk.specs.Desk.{Told, Use, IsOpen, IsReading, IsWriting, at_number, blame_at, blamed, bytes_of, closed, finished, moved_use, name_if_open, name_if_reading, opened, reads, rest_of, rest_of_use}
-use Rattle.sap_desk.specs.Whole.{Between}
+use Rattle.sap_desk.specs.Desk.{Told, Use, IsOpen, IsReading, IsWriting, at_number, blame_at, blamed, bytes_of, closed, finished, name_if_open, name_if_reading, opened, read_on_use, reads, rest_of, rest_of_use}
+use Rattle.sap_desk.specs.Whole.{Between, IsReadTo}
 use Rattle.sap_desk.proofs.Steps.{at_number-keeps, at_number-same, at_number-twice, file_there, other_number}
 use Rattle.sap_desk.proofs.WholeFiles.{blame_is}
 use Rattle.sap_lattice.specs.Levels.{Levels}
@@ -12,7 +12,7 @@ use Rattle.sap_stim.specs.Stimulus.{stimulus_of}
 use Rattle.sap_lines.specs.declared.stepping.stopped.FailedCall.{FailedCall}
 use Rattle.sap_lines.specs.declared.stepping.stopped.FailedCall.TheVariants.{Input, Output}
 use Rattle.sap_lines.specs.declared.stepping.stopped.Stopped.TheVariants.{Call, Memory}
-use Rattle.sap_lines.specs.Stepping.Followed.{Broken, FailsFor, Followed, Going, GoesTooFar, IsPartShown, blamed_for}
+use Rattle.sap_lines.specs.Stepping.Followed.{Broken, FailsFor, Followed, Going, GoesTooFar, IsPartShown, blamed_for, last_place}
 use Rattle.sap_lines.specs.Stepping.Pace.{FaultOf, IsNeeded, IsTooLong, IsWritten, Prints, Shows, printed_fault, printed_text}
 use Rattle.sap_lines.specs.Stepping.Printed.{CallFailed, CutShort, MissingOrTooLong, OutputGrew, Printed, StaysOpen, Stops}
 
@@ -50,41 +50,53 @@ module _ (channel : ℕ) (name : List ℕ) (R Q : Told → Told → Type 0) wher
         onto None last r = absurd r
         onto (Some n) last r = subst (λ (o : Option Told). Between (Some t) o Q) (sym last) (h t n can r)
 
+-- what reads make of a file that was just opened
+opened_on : (asked : Option ℕ) (count : ℕ) (name : List ℕ) → read_on_use asked count (reads name 0 0) ≡ reads name (last_place asked) (0 + count)
+opened_on None count name = refl
+opened_on (Some few) count name = ap (λ (n : ℕ). reads name n (0 + count)) (omega arith)
+
 module _ (channel : ℕ) (name : List ℕ) (above : 2 < channel) (t n : Told) (can : CanOpen channel name t) where
   whole : rest_of (opened channel name t) channel ≡ bytes_of t name
-  whole = ap (rest_of_use (opened channel name t)) (at_number-same channel (reads name 0) t.uses)
+  whole = ap (rest_of_use (opened channel name t)) (at_number-same channel (reads name 0 0) t.uses)
 
   file : t.files name ≡ Some (bytes_of t name)
   file = file_there (t.files name) can.there
 
-  module _ (count : ℕ) (gained : List ℕ) (going : Going channel count gained (opened channel name t) n) where
-    uses_open : n.uses ≡ at_number channel (reads name (0 + count)) t.uses
+  module _ (asked : Option ℕ) (count : ℕ) (gained : List ℕ) (going : Going channel asked count gained (opened channel name t) n) where
+    uses_open : n.uses ≡ at_number channel (reads name (last_place asked) (0 + count)) t.uses
     uses_open =
         going.uses
-        ∙ ap (λ (u : Use). at_number channel (moved_use count u) (at_number channel (reads name 0) t.uses)) (at_number-same channel (reads name 0) t.uses)
-        ∙ at_number-twice channel (reads name 0) (reads name (0 + count)) t.uses
+        ∙ ap (λ (u : Use). at_number channel (read_on_use asked count u) (at_number channel (reads name 0 0) t.uses)) (at_number-same channel (reads name 0 0) t.uses)
+        ∙ at_number-twice channel (reads name 0 0) (read_on_use asked count (reads name 0 0)) t.uses
+        ∙ ap (λ (u : Use). at_number channel u t.uses) (opened_on asked count name)
 
     uses_finished : at_number channel closed n.uses ≡ t.uses
     uses_finished =
-        ap (at_number channel closed) uses_open ∙ at_number-twice channel (reads name (0 + count)) closed t.uses ∙ at_number-keeps channel closed t.uses can.fresh
+        ap (at_number channel closed) uses_open ∙ at_number-twice channel (reads name (last_place asked) (0 + count)) closed t.uses
+        ∙ at_number-keeps channel closed t.uses can.fresh
 
-    use_is : n.uses channel ≡ reads name (0 + count)
-    use_is = ap (λ (u : ℕ → Use). u channel) uses_open ∙ at_number-same channel (reads name (0 + count)) t.uses
+    use_is : n.uses channel ≡ reads name (last_place asked) (0 + count)
+    use_is = ap (λ (u : ℕ → Use). u channel) uses_open ∙ at_number-same channel (reads name (last_place asked) (0 + count)) t.uses
 
-    left_open : (why : FailedCall) (text : Prints) (fault : FaultOf) → IsNeeded fault (rest_of (opened channel name t) channel) count
-        → IsWritten why text (rest_of (opened channel name t) channel) count gained → StaysOpen why name text fault t gained t.uses n.uses
-    left_open why text fault needed written =
+    left_open : (why : FailedCall) (text : Prints) (fault : FaultOf) → IsReadTo None (rest_of (opened channel name t) channel) (last_place asked) count
+        → IsNeeded fault (take (last_place asked) (rest_of (opened channel name t) channel))
+        → IsWritten why text (take (last_place asked) (rest_of (opened channel name t) channel)) (take count (rest_of (opened channel name t) channel)) gained
+        → StaysOpen why name text fault t gained t.uses n.uses
+    left_open why text fault read needed written =
         let so_far : count ≡ 0 + count = omega arith in
         record {
           channel = channel;
           above = above;
           fresh = can.fresh;
+          asked = last_place asked;
           position = 0 + count;
           uses = uses_open;
           bytes = bytes_of t name;
           file = file;
-          needed = subst (λ (n : ℕ). IsNeeded fault (bytes_of t name) n) so_far (subst (λ (bytes : List ℕ). IsNeeded fault bytes count) whole needed);
-          written = subst (λ (n : ℕ). IsWritten why text (bytes_of t name) n gained) so_far (subst (λ (bytes : List ℕ). IsWritten why text bytes count gained) whole written);
+          read = subst (λ (n : ℕ). IsReadTo None (bytes_of t name) (last_place asked) n) so_far (subst (λ (bytes : List ℕ). IsReadTo None bytes (last_place asked) count) whole read);
+          needed = subst (λ (bytes : List ℕ). IsNeeded fault (take (last_place asked) bytes)) whole needed;
+          written = subst (λ (n : ℕ). IsWritten why text (take (last_place asked) (bytes_of t name)) (take n (bytes_of t name)) gained) so_far
+              (subst (λ (bytes : List ℕ). IsWritten why text (take (last_place asked) bytes) (take count bytes) gained) whole written);
         }
 
     grew : OutputGrew gained t n
@@ -116,8 +128,8 @@ module _ (channel : ℕ) (name : List ℕ) (above : 2 < channel) (t n : Told) (c
       is_fault = f.is_fault ∙ ap (λ (bytes : List ℕ). (stimulus_of ls fs bytes).fault) whole;
       gained = f.gained;
       shown = subst (λ (bytes : List ℕ). shows (stimulus_of ls fs bytes).stream f.gained) whole (all_shown fault f);
-      grew = finished_grew f.count f.gained f.going;
-      uses = uses_finished f.count f.gained f.going;
+      grew = finished_grew f.asked f.count f.gained f.going;
+      uses = uses_finished f.asked f.count f.gained f.going;
       blame = f.blame;
     }
 
@@ -133,9 +145,9 @@ module _ (channel : ℕ) (name : List ℕ) (above : 2 < channel) (t n : Told) (c
     unfolding left_open
     cut_short why b = record {
       gained = b.gained;
-      grew = grew b.count b.gained b.going;
-      blame = b.blame ∙ ap (λ (u : Use). blamed_for why (name_if_reading u)) (at_number-same channel (reads name 0) t.uses);
-      stays = left_open b.count b.gained b.going why (printed_text shows ls fs) (printed_fault ls fs) b.needed b.written;
+      grew = grew b.asked b.count b.gained b.going;
+      blame = b.blame ∙ ap (λ (u : Use). blamed_for why (name_if_reading u)) (at_number-same channel (reads name 0 0) t.uses);
+      stays = left_open b.asked b.count b.gained b.going why (printed_text shows ls fs) (printed_fault ls fs) b.read b.needed b.written;
       part = subst (λ (bytes : List ℕ). IsPartShown shows ls fs bytes b.gained) whole b.part;
       part_read = read_from_start b.count b.gained b.part_read;
     }
@@ -149,9 +161,9 @@ module _ (channel : ℕ) (name : List ℕ) (above : 2 < channel) (t n : Told) (c
         subst (λ (x : Told). CutShort shows ls fs name Input t x) (sym (blame_is channel name n above (name_if_open (n.uses channel)) n))
         (record {
           gained = f.gained;
-          grew = blamed_grew f.count f.gained f.going;
-          blame = ap name_if_open (use_is f.count f.gained f.going);
-          stays = left_open f.count f.gained f.going Input (printed_text shows ls fs) (printed_fault ls fs) f.needed
+          grew = blamed_grew f.asked f.count f.gained f.going;
+          blame = ap name_if_open (use_is f.asked f.count f.gained f.going);
+          stays = left_open f.asked f.count f.gained f.going Input (printed_text shows ls fs) (printed_fault ls fs) f.read f.needed
               (subst (λ (p : Parsed). shows p.stream f.gained) (sym f.enough) (all_shown fault f));
           part = subst (λ (bytes : List ℕ). IsPartShown shows ls fs bytes f.gained) whole (record {
             lines = (stimulus_of ls fs read).stream;
@@ -171,9 +183,9 @@ module _ (channel : ℕ) (name : List ℕ) (above : 2 < channel) (t n : Told) (c
 
   -- why, at a desk on which no call is still to fail by its number
   pub fails_for : (why : FailedCall) (fault : FaultOf) → FailsFor (GoesTooFar fault channel) why (opened channel name t) n → FailsFor (MissingOrTooLong fault name) why t n
-  fails_for Input fault far = inr (subst (IsTooLong fault) whole (far (subst IsReading (sym (at_number-same channel (reads name 0) t.uses)) tt)))
+  fails_for Input fault far = inr (subst (IsTooLong fault) whole (far (subst IsReading (sym (at_number-same channel (reads name 0 0) t.uses)) tt)))
   fails_for Output fault full = λ writing.
-      full (subst IsWriting (sym (ap (λ (b : Bool). cond b (reads name 0) (t.uses 1)) (other_number 1 channel (omega arith)))) writing)
+      full (subst IsWriting (sym (ap (λ (b : Bool). cond b (reads name 0 0) (t.uses 1)) (other_number 1 channel (omega arith)))) writing)
 
 -- it could not be opened
 
@@ -199,12 +211,13 @@ never_unfinished channel name R Q f (Some t) one two three is also open_now b sh
       onto None r s = absurd r
       onto (Some n) r s = absurd (s (open_now t n r))
 
-pub still_open : (channel count : ℕ) (name gained : List ℕ) (t n : Told) → Going channel count gained (opened channel name t) n → IsOpen (n.uses channel)
-still_open channel count name gained t n going =
-    let reading : n.uses channel ≡ moved_use count (reads name 0)
+pub still_open : (channel : ℕ) (asked : Option ℕ) (count : ℕ) (name gained : List ℕ) (t n : Told) → Going channel asked count gained (opened channel name t) n → IsOpen (n.uses channel)
+still_open channel asked count name gained t n going =
+    let reading : n.uses channel ≡ reads name (last_place asked) (0 + count)
     = ap (λ (u : ℕ → Use). u channel) going.uses
-    ∙ at_number-same channel (moved_use count ((opened channel name t).uses channel)) (opened channel name t).uses
-    ∙ ap (moved_use count) (at_number-same channel (reads name 0) t.uses) in
+    ∙ at_number-same channel (read_on_use asked count ((opened channel name t).uses channel)) (opened channel name t).uses
+    ∙ ap (read_on_use asked count) (at_number-same channel (reads name 0 0) t.uses)
+    ∙ opened_on asked count name in
     subst IsOpen (sym reading) tt
 
 -- there was no memory to open it

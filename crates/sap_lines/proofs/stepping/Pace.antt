@@ -1,5 +1,7 @@
 -- How far a channel was read, and what was written by then, from one line to the next.
-use Rattle.sap_lemmas.proofs.Common.{◌≡◌, ℕ, ◌+◌, ◌-◌, ◌<◌, ◌≤◌, List, [], ◌++◌, length, take, drop, append_assoc, refl, sym, ◌∙◌, ap, ap₂, subst, inl, inr, ◌⊎◌, arith, Some, None, append-nil, drop-take, take_all, take-append-drop, take-append-le, take-take}
+use Rattle.sap_lemmas.proofs.Common.{◌≡◌, ℕ, ◌+◌, ◌-◌, ◌≤◌, List, [], ◌++◌, take, drop, append_assoc, refl, sym, ◌∙◌, ap, ap₂, subst, inl, inr, ◌⊎◌, arith, length-drop, Option, Some, None, append-nil, drop-take, take-append-drop, take-take}
+use Rattle.sap_desk.specs.Whole.{IsReadTo}
+use Rattle.sap_desk.proofs.Steps.{last_asked}
 use Rattle.sap_lattice.specs.Levels.{Levels}
 use Rattle.sap_meaning.specs.Cycle.{Tagged as Given}
 use Rattle.sap_stream.specs.Spans.{Span, cycles_of}
@@ -10,8 +12,8 @@ use Rattle.sap_lines.specs.declared.stepping.stopped.FailedCall.TheVariants.{Inp
 use Rattle.sap_lines.specs.Fetched.{IsDecided}
 use Rattle.sap_lines.specs.Follows.{Follows}
 use Rattle.sap_lines.specs.Reader.{Reader}
+use Rattle.sap_lines.specs.Stepping.Followed.{last_place}
 use Rattle.sap_lines.specs.Stepping.Pace.{FaultOf, IsNeeded, IsWritten, Shows, TellsRefusal, printed_fault, printed_text}
-use Rattle.sap_lines.proofs.Fronts.{begins_so}
 use Rattle.sap_lines.proofs.Undecided.{no_cycles, no_fault, undecided_front}
 
 -- so many bytes, and then more behind them
@@ -54,32 +56,16 @@ module _ (ls : Levels) (fs : List Field) (front : List ℕ) (lines : List Span) 
       ∙ ap (λ (cycles : List (List Given)). cycles_of lines ++ cycles) (no_cycles ls r.fields (r.count + 1) (r.pending ++ more) wants)
       ∙ append-nil (cycles_of lines)
 
--- what the first of some bytes give, of what these lines give that all of them give
-front_lines : (ls : Levels) (fs : List Field) (bytes : List ℕ) (few many : ℕ) (cycles : List (List Given)) → few ≤ many → (stimulus_of ls fs (take many bytes)).stream ≡ cycles
-    → (stimulus_of ls fs (take few bytes)).stream ≡ take (length (stimulus_of ls fs (take few bytes)).stream) cycles
-front_lines ls fs bytes few many cycles less are =
-    let first : List (List Given) = (stimulus_of ls fs (take few bytes)).stream in
-    let more : List ℕ = take (many - few) (drop few bytes) in
-    let both : take many bytes ≡ take few bytes ++ more =
-    (let sum : many ≡ few + (many - few) = omega (arith, less) in ap (λ (n : ℕ). take n bytes) sum ∙ front_more few (many - few) bytes) in
-    let (rest, is) = begins_so ls fs 1 (take few bytes) more in
-    sym (take-append-le (length first) first rest (omega arith) ∙ take_all (length first) first (omega arith))
-    ∙ ap (take (length first)) (sym is ∙ ap (λ (l : List ℕ). (stimulus_of ls fs l).stream) (sym both) ∙ are)
-
--- the first of these cycles, however many, show a beginning of this text
-abbrev pub ShowsAlong : Shows → (cycles : List (List Given)) → (text : List ℕ) → Type 0
-ShowsAlong base cycles text = (first : ℕ) → (part more : List ℕ) × base (take first cycles) part × (text ≡ part ++ more)
-
 module _ (base : Shows) (ls : Levels) (fs : List Field) (bytes : List ℕ) (count : ℕ) where
-  abbrev Needed : (n : ℕ) → Type 0
-  Needed n = IsNeeded (printed_fault ls fs) bytes n
+  abbrev Needed : (before : ℕ) → Type 0
+  Needed before = IsNeeded (printed_fault ls fs) (take before bytes)
 
-  abbrev WrittenBefore : (n : ℕ) → (gained : List ℕ) → Type 0
-  WrittenBefore n gained = IsWritten Output (printed_text base ls fs) bytes n gained
+  abbrev WrittenBefore : (before n : ℕ) → (gained : List ℕ) → Type 0
+  WrittenBefore before n gained = IsWritten Output (printed_text base ls fs) (take before bytes) (take n bytes) gained
 
   -- what was written more
-  pub written_more : (gained piece : List ℕ) → WrittenBefore count gained → WrittenBefore count (gained ++ piece)
-  written_more gained piece (whole, more, is, all) = (whole, more ++ piece, is, ap (λ (l : List ℕ). l ++ piece) all ∙ append_assoc whole more piece)
+  pub written_more : (before : ℕ) (gained piece : List ℕ) → WrittenBefore before count gained → WrittenBefore before count (gained ++ piece)
+  written_more before gained piece (whole, more, is, all) = (whole, more ++ piece, is, ap (λ (l : List ℕ). l ++ piece) all ∙ append_assoc whole more piece)
 
   module _ (lines : List Span) (r : Reader) (gained waiting : List ℕ) (follows : (rest : List ℕ) → Follows ls fs (take count bytes ++ rest) lines r rest)
       (shown : base (cycles_of lines) (gained ++ waiting)) (quiet : IsDecided r.pending ⊎ (waiting ≡ [])) where
@@ -98,8 +84,9 @@ module _ (base : Shows) (ls : Levels) (fs : List Field) (bytes : List ℕ) (coun
         ap (λ (l : List ℕ). (stimulus_of ls fs l).stream) (front_more count k bytes) ∙ lines_alone ls fs (take count bytes) lines r follows (take k (drop count bytes)) wants
 
     -- all is written that the bytes give
-    pub all_written : (k : ℕ) → (IsDecided (r.pending ++ take k (drop count bytes)) → ⊥) → IsWritten Input (printed_text base ls fs) bytes (count + k) gained
-    all_written k wants = subst (λ (cycles : List (List Given)). base cycles gained) (sym (lines_are k wants)) (subst (base (cycles_of lines)) (all_gained k wants) shown)
+    pub all_written : (k : ℕ) → (IsDecided (r.pending ++ take k (drop count bytes)) → ⊥) → (before : ℕ)
+        → IsWritten Input (printed_text base ls fs) (take before bytes) (take (count + k) bytes) gained
+    all_written k wants before = subst (λ (cycles : List (List Given)). base cycles gained) (sym (lines_are k wants)) (subst (base (cycles_of lines)) (all_gained k wants) shown)
 
     -- none of them tells a refused line, nor do fewer
     pub not_told : (k few : ℕ) → (IsDecided (r.pending ++ take k (drop count bytes)) → ⊥) → few ≤ count + k → TellsRefusal (printed_fault ls fs) (take few bytes) → ⊥
@@ -109,26 +96,36 @@ module _ (base : Shows) (ls : Levels) (fs : List Field) (bytes : List ℕ) (coun
 
     -- where the last piece was wanted for the next line
 
-    abbrev Wanted : (k : ℕ) → Type 0
-    Wanted k = (k ≡ 0) ⊎ ((j : ℕ) × (j < k) × (k ≤ j + 4096) × (IsDecided (r.pending ++ take j (drop count bytes)) → ⊥))
+    abbrev pub Wanted : (k : ℕ) → (asked : Option ℕ) → Type 0
+    Wanted k None = k ≡ 0
+    Wanted k (Some few) = IsReadTo None (drop count bytes) few k × (IsDecided (r.pending ++ take few (drop count bytes)) → ⊥)
 
-    pub needed_read : (k : ℕ) → Wanted k → Needed count → Needed (count + k)
-    needed_read k (inl none) needed = subst Needed (let e : count ≡ count + k = omega (arith, none) in e) needed
-    needed_read k (inr (j, before, most, wants)) needed = not_told j (count + k - 4096) wants (omega (arith, most))
+    pub needed_read : (first : Option ℕ) (k : ℕ) (asked : Option ℕ) → Wanted k asked → Needed (last_place first) → Needed (last_place (last_asked first count asked))
+    needed_read first k None none needed = needed
+    needed_read first k (Some few) (read, wants) needed = not_told few (count + few) wants (omega arith)
 
-    pub written_read : (k : ℕ) → Wanted k → ShowsAlong base (cycles_of lines) (gained ++ waiting) → WrittenBefore count gained → WrittenBefore (count + k) gained
-    written_read k (inl none) along written = subst (λ (n : ℕ). WrittenBefore n gained) (let e : count ≡ count + k = omega (arith, none) in e) written
-    written_read k (inr (j, before, most, wants)) along written =
-        let few : ℕ = count + k - 4096 in
-        let first : List (List Given) = (stimulus_of ls fs (take few bytes)).stream in
-        let front : first ≡ take (length first) (cycles_of lines) = front_lines ls fs bytes few (count + j) (cycles_of lines) (omega (arith, most)) (lines_are j wants) in
-        let (part, more, is, all) = along (length first) in
-        (part, more, subst (λ (cycles : List (List Given)). base cycles part) (sym front) is, sym (all_gained j wants) ∙ all)
+    pub written_read : (first : Option ℕ) (k : ℕ) (asked : Option ℕ) → Wanted k asked → WrittenBefore (last_place first) count gained
+        → WrittenBefore (last_place (last_asked first count asked)) (count + k) gained
+    written_read first k None none written = written
+    written_read first k (Some few) (read, wants) written = (gained, [], all_written few wants 0, sym (append-nil gained))
+
+    pub read_further : (first : Option ℕ) (k : ℕ) (asked : Option ℕ) → Wanted k asked → IsReadTo None bytes (last_place first) count
+        → IsReadTo None bytes (last_place (last_asked first count asked)) (count + k)
+    read_further first k None none so_far = subst (λ (n : ℕ). IsReadTo None bytes (last_place first) n) (let e : count ≡ count + k = omega (arith, none) in e) so_far
+    read_further first k (Some few) (read, wants) so_far = record {
+      within = omega (arith, read.within, so_far.within, length-drop count bytes);
+      from = omega (arith, read.from);
+      piece = omega (arith, read.piece);
+      most = tt;
+    }
 
 -- where nothing was read
 
-pub needed_none : (ls : Levels) (fs : List Field) (bytes : List ℕ) → IsNeeded (printed_fault ls fs) bytes 0
+pub needed_none : (ls : Levels) (fs : List Field) (bytes : List ℕ) → IsNeeded (printed_fault ls fs) (take 0 bytes)
 needed_none ls fs bytes told = let (why, all) = told in let e : None ≡ Some why = all [] in let f : ⊥ = cc in f
 
-pub written_none : (base : Shows) (ls : Levels) (fs : List Field) (bytes : List ℕ) → base [] [] → IsWritten Output (printed_text base ls fs) bytes 0 []
+pub written_none : (base : Shows) (ls : Levels) (fs : List Field) (bytes : List ℕ) → base [] [] → IsWritten Output (printed_text base ls fs) (take 0 bytes) (take 0 bytes) []
 written_none base ls fs bytes shown = ([], [], shown, refl)
+
+pub read_none : (bytes : List ℕ) → IsReadTo None bytes 0 0
+read_none bytes = record { within = omega arith; from = omega arith; piece = omega arith; most = tt }

@@ -31,17 +31,17 @@ printed_fault ls fs bytes = (stimulus_of ls fs bytes).fault
 abbrev pub TellsRefusal : FaultOf → (bytes : List ℕ) → Type 0
 TellsRefusal fault bytes = (why : StimFault) × ((rest : List ℕ) → fault (bytes ++ rest) ≡ Some why)
 
--- So many bytes of a file are needed: those before the last 4,096 of them don't tell that a line is refused.
-abbrev pub IsNeeded : FaultOf → (bytes : List ℕ) → (count : ℕ) → Type 0
-IsNeeded fault bytes count = ¬ TellsRefusal fault (take (count - 4096) bytes)
+-- The last piece that was read of a file is needed: the bytes behind which it was asked for don't tell that a line is refused.
+abbrev pub IsNeeded : FaultOf → (before : List ℕ) → Type 0
+IsNeeded fault before = ¬ TellsRefusal fault before
 
--- What is written where a call fails, and so many bytes of a file were read. Where it is a call on the file, it is exactly what these bytes give. Where it is one on
--- the output, it begins with what those before the last 4,096 of them give.
-abbrev pub IsWritten : FailedCall → Prints → (bytes : List ℕ) → (count : ℕ) → (gained : List ℕ) → Type 0
-IsWritten Input text bytes count gained = text (take count bytes) gained
-IsWritten Output text bytes count gained = (whole more : List ℕ) × text (take (count - 4096) bytes) whole × (gained ≡ whole ++ more)
+-- What is written where a call fails, of the bytes of a file that were read by then, and of those before the last piece. Where it is a call on the file, it is exactly what
+-- the bytes give that were read. Where it is one on the output, it begins with what those before the last piece give.
+abbrev pub IsWritten : FailedCall → Prints → (before front : List ℕ) → (gained : List ℕ) → Type 0
+IsWritten Input text before front gained = text front gained
+IsWritten Output text before front gained = (whole more : List ℕ) × text before whole × (gained ≡ whole ++ more)
 
 -- a file is too long for a desk, and what of it a desk gives at least doesn't tell that a line is refused
 pub record IsTooLong (fault : FaultOf) (bytes : List ℕ) : Type 0 where
   pub long : 2 ^ 32 ≤ length bytes
-  pub needed : IsNeeded fault bytes (2 ^ 32)
+  pub needed : IsNeeded fault (take (2 ^ 32 - 4096) bytes)

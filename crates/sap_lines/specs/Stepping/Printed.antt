@@ -1,6 +1,7 @@
 -- What comes of a stimulus that is printed.
 use Rattle.std.specs.Prelude.{◌≡◌, ◌≢◌, ◌⊎◌, ℕ, ◌<◌, List, ◌++◌, take, Option, Some, None}
 use Rattle.sap_desk.specs.Desk.{Told, Use, closed, reads, at_number, blamed, bytes_of}
+use Rattle.sap_desk.specs.Whole.{IsReadTo}
 use Rattle.sap_lattice.specs.Levels.{Levels}
 use Rattle.sap_stim.specs.declared.fault.StimFault.{StimFault}
 use Rattle.sap_stim.specs.declared.field.Field.{Field}
@@ -31,17 +32,19 @@ pub record Printed (shows : Shows) (ls : Levels) (fs : List Field) (name : List 
   pub uses : n.uses ≡ t.uses
   pub blame : n.blame ≡ t.blame
 
--- A call failed where so many bytes of a file were read, and this was written: the channel is still open that reads it, since no further call is made.
+-- A call failed where so many bytes of a file were read, the last piece asked for behind so many of them, and this was written: the channel is still open that reads it, since no further call is made.
 pub record StaysOpen (why : FailedCall) (name : List ℕ) (text : Prints) (fault : FaultOf) (t : Told) (gained : List ℕ) (before after : ℕ → Use) : Type 0 where
   pub channel : ℕ
   pub above : 2 < channel
   pub fresh : before channel ≡ closed
+  pub asked : ℕ
   pub position : ℕ
-  pub uses : after ≡ at_number channel (reads name position) before
+  pub uses : after ≡ at_number channel (reads name asked position) before
   pub bytes : List ℕ
   pub file : t.files name ≡ Some bytes
-  pub needed : IsNeeded fault bytes position
-  pub written : IsWritten why text bytes position gained
+  pub read : IsReadTo None bytes asked position
+  pub needed : IsNeeded fault (take asked bytes)
+  pub written : IsWritten why text (take asked bytes) (take position bytes) gained
 
 -- a call failed once the file was open: what is written is the beginning of what is shown, and no line is shown that isn't whole in the bytes that were read
 pub record CutShort (shows : Shows) (ls : Levels) (fs : List Field) (name : List ℕ) (why : FailedCall) (t n : Told) : Type 0 where

@@ -1,10 +1,11 @@
-use Rattle.sap_lemmas.proofs.Common.{◌≡◌, ◌+◌, ◌-◌, ◌<◌, ◌≤◌, ◌^◌, ◌++◌, length, drop, IfSome, option_map}
-use Rattle.sap_desk.specs.Desk.{at_number, rest_of, moved}
+use Rattle.sap_lemmas.proofs.Common.{◌≡◌, ◌+◌, ◌-◌, ◌<◌, ◌≤◌, ◌^◌, ◌++◌, length, drop, IfSome}
+use Rattle.sap_desk.specs.Desk.{at_number, rest_of}
+use Rattle.sap_desk.proofs.ReadFiles.{ReadSo}
 use Rattle.sap_desk.proofs.whole.read_until.Given as goal
 
 abbrev pub invariant-loop-piece : goal.invariant-loop-piece
 invariant-loop-piece g l = record {
-  told : g.D.Desk.told l.desk ≡ option_map (moved l.channel (length l.bytes.items)) (g.D.Desk.told l.fn.desk);
+  so : ReadSo l.limit l.channel (length l.bytes.items) (g.D.Desk.told l.fn.desk) (g.D.Desk.told l.desk);
   bytes : IfSome (g.D.Desk.told l.fn.desk) (λ t. l.bytes.items ++ drop (length l.bytes.items) (rest_of t l.channel) ≡ rest_of t l.channel);
   most : length l.bytes.items ≤ l.limit + 4096;
   short : length l.bytes.items < 2 ^ 32;

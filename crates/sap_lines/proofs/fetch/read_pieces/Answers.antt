@@ -1,14 +1,13 @@
-use Rattle.sap_lemmas.proofs.Common.{rules, tests, ◌≡◌, true, ◌++◌, ◌<◌, ◌≤◌, [], length, take, refl, sym, inl, arith, length-take, append-nil}
+use Rattle.sap_lemmas.proofs.Common.{rules, tests, ◌≡◌, true, ◌++◌, ◌≤◌, [], length, take, refl, sym, arith, append-nil}
 use Rattle.sap_desk.proofs.Steps.{on_err}
 use Rattle.sap_lines.specs.Fetched.{IsDecided}
-use Rattle.sap_lines.proofs.Reading.{no_more, behind_more, piece_more, same_more, failed_more, end_read, fails_now, least_more}
+use Rattle.sap_lines.proofs.Reading.{no_more, behind_more, piece_more, same_more, failed_more, end_read, fails_now}
 use Rattle.sap_lines.proofs.fetch.read_pieces.Goals as goal
 
 pub loop-piece-init : goal.loop-piece-init
 loop-piece-init g c = record {
   more = no_more c.args.channel c.args.held.now _ _;
   behind = ([], sym (append-nil c.args.held.now));
-  least = inl refl;
   bounded = λ small. small;
   faults = refl;
   lost = refl;
@@ -21,14 +20,11 @@ loop-piece-preserved g c =
     let within : c.in_ok-count.count ≤ length c.read.new.buf = search rules in
     let undecided : IsDecided c.loop-piece.held → ⊥ =
     λ decided. (let told : c.is_decided.result ≡ true = c.is_decided.ensures.1 decided in let no : ⊥ = search (rules, tests) in no) in
-    let grown : length c.args.held.now ≤ length c.loop-piece.held = omega (arith, c.loop-piece.invariant.more.size) in
-    let some : 0 < length (take c.in_ok-count.count c.read.new.buf) = omega (arith, length-take c.in_ok-count.count c.read.new.buf) in
-    let most : length (take c.in_ok-count.count c.read.new.buf) ≤ 4096 = omega (arith, length-take c.in_ok-count.count c.read.new.buf) in
+    let few : c.in_ok-count.count ≤ 4096 = omega (arith, within) in
     record {
-      more = piece_more c.args.channel c.in_ok-count.count _ _ _ _ _ _ _ _ _ _ _ c.loop-piece.invariant.more within
+      more = piece_more c.args.channel c.in_ok-count.count _ _ _ _ _ _ _ _ _ _ _ c.loop-piece.invariant.more undecided within few
           c.in_ok-count.ensures.told c.in_ok-count.ensures.gave c.in_ok-count.ensures.given items;
       behind = behind_more c.args.held.now c.loop-piece.held c.add.new.self (take c.in_ok-count.count c.read.new.buf) c.loop-piece.invariant.behind items;
-      least = least_more c.args.held.now c.loop-piece.held c.add.new.self (take c.in_ok-count.count c.read.new.buf) undecided grown some most items;
       bounded = λ small. c.in_ok-count.ensures.bounded;
       faults = search rules;
       lost = search rules;
@@ -45,7 +41,10 @@ returns-in_err-count-clause-cause g c =
     c.in_err-count.ensures.given_stands (c.in_err-count.ensures.cause (c.loop-piece.invariant.sure sure)))
 
 pub returns-then-count-eq0-clause-more : goal.returns-then-count-eq0-clause-more
-returns-then-count-eq0-clause-more g c = same_more _ _ _ _ _ _ _ _ _ _ c.loop-piece.invariant.more c.if-count-eq0.true c.in_ok-count.ensures.told c.in_ok-count.ensures.given
+returns-then-count-eq0-clause-more g c =
+    let undecided : IsDecided c.loop-piece.held → ⊥ =
+    λ decided. (let told : c.is_decided.result ≡ true = c.is_decided.ensures.1 decided in let no : ⊥ = search (rules, tests) in no) in
+    same_more _ _ _ _ _ _ _ _ _ _ c.loop-piece.invariant.more undecided c.if-count-eq0.true c.in_ok-count.ensures.told c.in_ok-count.ensures.given
 
 pub returns-then-count-eq0-clause-decided : goal.returns-then-count-eq0-clause-decided
 returns-then-count-eq0-clause-decided g c = end_read _ _ _ _ _ _ _ c.if-count-eq0.true c.in_ok-count.ensures.told c.in_ok-count.ensures.gave (omega arith)

@@ -1,12 +1,13 @@
-use Rattle.sap_lemmas.proofs.Common.{ℕ, ◌-◌, List, [], ◌++◌, take, sym, ap, ◌∙◌, subst, IfSome}
+use Rattle.sap_lemmas.proofs.Common.{ℕ, ◌-◌, List, [], ◌++◌, take, refl, sym, ap, ◌∙◌, subst, IfSome}
 use Rattle.sap_desk.specs.Desk.{rest_of}
 use Rattle.sap_meaning.specs.Cycle.{Tagged as Given}
 use Rattle.sap_stream.specs.Spans.{Span}
-use Rattle.sap_lines.specs.Fetched.{IsDecided, ReadsLeast}
+use Rattle.sap_lines.specs.Answers.{ReadOn}
+use Rattle.sap_lines.specs.Fetched.{IsDecided}
 use Rattle.sap_lines.specs.Reader.{Reader}
-use Rattle.sap_lines.specs.declared.next.Next.TheVariants.{Line}
-use Rattle.sap_lines.proofs.Answered.{if_told, next_by, next_read, next_told, still_decided, still_takes, still_tells, takes_read, takes_some}
-use Rattle.sap_lines.proofs.Reading.{held_read_so, read_count, reads_least, wanted_so}
+use Rattle.sap_lines.specs.declared.next.Next.TheVariants.{Failed, Line}
+use Rattle.sap_lines.proofs.Answered.{answered_on, failed_on, if_told, next_by, next_read, next_told, still_decided, still_takes, still_tells, takes_read, takes_some}
+use Rattle.sap_lines.proofs.Reading.{held_read_so, read_count, wanted_so}
 use Rattle.sap_lines.proofs.lines.Lines.next.Goals as goal
 
 abbrev line_so : (inputs : List Given) (cycles : ℕ) → Span
@@ -61,13 +62,6 @@ returns-in-Some-clause-takes_some g c = λ _.
     c.args.self.now (c.as_slice.ensures.value ∙ ap (λ (r : Reader). r.fields) c.self.view_is) (ap (λ (r : Reader). r.pending) c.self.view_is)
     c.in-Some.ensures.takes c.args.channel (g.D.Desk.told c.args.desk.now) (g.D.Desk.told c.fetch.new.desk) (g.D.Desk.given c.args.desk.now)
     (g.D.Desk.given c.fetch.new.desk) c.in-Ok.ensures.more c.fetch.ensures.behind.0 c.fetch.ensures.behind.1
-
-pub returns-in-Some-clause-least : goal.returns-in-Some-clause-least
-returns-in-Some-clause-least g c =
-    let count = g.D.Desk.given c.fetch.new.desk c.args.channel - g.D.Desk.given c.args.desk.now c.args.channel in
-    subst (λ (r : Reader). IfSome (g.D.Desk.told c.args.desk.now) (ReadsLeast c.args.channel r.pending count)) c.self.view_is
-    (reads_least c.args.channel c.in-Ok.ensures.more.count c.self.inside.held c.fetch.new.held (g.D.Desk.told c.args.desk.now)
-    (g.D.Desk.given c.args.desk.now) (g.D.Desk.given c.fetch.new.desk) c.in-Ok.ensures.more.size c.in-Ok.ensures.more.bytes c.in-Ok.ensures.more.given c.in-Ok.ensures.least)
 
 -- another answer
 
@@ -140,21 +134,6 @@ returns-in-Err-clause-by g c = λ _. if_told (g.D.Desk.told c.args.desk.now) _ (
 pub returns-in-Err-clause-some : goal.returns-in-Err-clause-some
 returns-in-Err-clause-some g c = λ _. ([], λ rest _. tt)
 
-pub returns-in_default-clause-least : goal.returns-in_default-clause-least
-returns-in_default-clause-least g c =
-    let count = g.D.Desk.given c.fetch.new.desk c.args.channel - g.D.Desk.given c.args.desk.now c.args.channel in
-    subst (λ (r : Reader). IfSome (g.D.Desk.told c.args.desk.now) (ReadsLeast c.args.channel r.pending count)) c.self.view_is
-    (reads_least c.args.channel c.in-Ok.ensures.more.count c.self.inside.held c.fetch.new.held (g.D.Desk.told c.args.desk.now)
-    (g.D.Desk.given c.args.desk.now) (g.D.Desk.given c.fetch.new.desk) c.in-Ok.ensures.more.size c.in-Ok.ensures.more.bytes c.in-Ok.ensures.more.given c.in-Ok.ensures.least)
-
-pub returns-in-Err-clause-least : goal.returns-in-Err-clause-least
-returns-in-Err-clause-least g c =
-    let count = g.D.Desk.given c.fetch.new.desk c.args.channel - g.D.Desk.given c.args.desk.now c.args.channel in
-    subst (λ (r : Reader). IfSome (g.D.Desk.told c.args.desk.now) (ReadsLeast c.args.channel r.pending count)) c.self.view_is
-    (reads_least c.args.channel c.in-Err.ensures.failed.count c.self.inside.held c.fetch.new.held (g.D.Desk.told c.args.desk.now)
-    (g.D.Desk.given c.args.desk.now) (g.D.Desk.given c.fetch.new.desk) c.in-Err.ensures.failed.size c.in-Err.ensures.failed.bytes
-    c.in-Err.ensures.failed.given c.in-Err.ensures.least)
-
 pub returns-in-Err-clause-wanted : goal.returns-in-Err-clause-wanted
 returns-in-Err-clause-wanted g c = λ _.
     let more = c.in-Err.ensures.failed in
@@ -164,3 +143,26 @@ returns-in-Err-clause-wanted g c = λ _.
     (subst (λ (n : ℕ). IfSome told (λ t. IsDecided (c.self.inside.held ++ take n (rest_of t c.args.channel)) → ⊥))
     (sym (read_count c.args.channel more.count (g.D.Desk.given c.args.desk.now) (g.D.Desk.given c.fetch.new.desk) more.given))
     (wanted_so c.args.channel more.count c.self.inside.held c.fetch.new.held told more.size more.bytes c.in-Err.ensures.wanted))
+
+-- how much was read, and where the last piece was asked for
+
+pub returns-in-Some-clause-read : goal.returns-in-Some-clause-read
+returns-in-Some-clause-read g c =
+    subst (λ (r : Reader). ReadOn Line c.args.channel r.pending (g.D.Desk.told c.args.desk.now) (g.D.Desk.told c.fetch.new.desk)
+    (g.D.Desk.given c.args.desk.now) (g.D.Desk.given c.fetch.new.desk)) c.self.view_is
+    (answered_on Line c.args.channel c.self.inside.held c.fetch.new.held (g.D.Desk.told c.args.desk.now) (g.D.Desk.told c.fetch.new.desk)
+    (g.D.Desk.given c.args.desk.now) (g.D.Desk.given c.fetch.new.desk) refl c.in-Ok.ensures.more)
+
+pub returns-in_default-clause-read : goal.returns-in_default-clause-read
+returns-in_default-clause-read g c =
+    subst (λ (r : Reader). ReadOn c.take_line-next.result c.args.channel r.pending (g.D.Desk.told c.args.desk.now) (g.D.Desk.told c.fetch.new.desk)
+    (g.D.Desk.given c.args.desk.now) (g.D.Desk.given c.fetch.new.desk)) c.self.view_is
+    (answered_on c.take_line-next.result c.args.channel c.self.inside.held c.fetch.new.held (g.D.Desk.told c.args.desk.now) (g.D.Desk.told c.fetch.new.desk)
+    (g.D.Desk.given c.args.desk.now) (g.D.Desk.given c.fetch.new.desk) c.take_line-next.ensures.answered c.in-Ok.ensures.more)
+
+pub returns-in-Err-clause-read : goal.returns-in-Err-clause-read
+returns-in-Err-clause-read g c =
+    subst (λ (r : Reader). ReadOn Failed c.args.channel r.pending (g.D.Desk.told c.args.desk.now) (g.D.Desk.told c.fetch.new.desk)
+    (g.D.Desk.given c.args.desk.now) (g.D.Desk.given c.fetch.new.desk)) c.self.view_is
+    (failed_on c.args.channel c.self.inside.held c.fetch.new.held (g.D.Desk.told c.args.desk.now) (g.D.Desk.told c.fetch.new.desk)
+    (g.D.Desk.given c.args.desk.now) (g.D.Desk.given c.fetch.new.desk) c.in-Err.ensures.failed c.in-Err.ensures.wanted)

@@ -81,7 +81,7 @@ returns-in-Err-finish-clause-cause g c = λ sure.
     (MissingOrTooLong (printed_fault (g.S.Steps.levels c.args.steps.now) (g.S.Steps.fields c.args.steps.now)) c.args.name.now))
     (Call Input)) (λ t. blame_at c.in-Ok.channel (name_if_open (t.uses c.in-Ok.channel)) t) (g.D.Desk.told c.args.desk.now)
     (g.D.Desk.told c.open_in.new.self) (g.D.Desk.told c.follow.new.desk) (g.D.Desk.told c.finish.new.self)
-    c.in-Ok.ensures.told c.in-Err-finish.ensures.failed (λ t n f. still_open c.in-Ok.channel f.count c.args.name.now f.gained t n f.going) c.in-Ok-follow.ensures.done
+    c.in-Ok.ensures.told c.in-Err-finish.ensures.failed (λ t n f. still_open c.in-Ok.channel f.asked f.count c.args.name.now f.gained t n f.going) c.in-Ok-follow.ensures.done
     (c.in-Err-finish.ensures.cause (c.in-Ok-follow.ensures.sure (c.in-Ok.ensures.sure sure)))
 
 pub returns-in-Err-clause-stopped : goal.returns-in-Err-clause-stopped

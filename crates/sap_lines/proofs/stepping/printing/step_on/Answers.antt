@@ -82,11 +82,11 @@ loop-desk-preserved g c =
     let few : c.loop-desk.lines.count < 2 ^ 32 = omega (arith, c.loop-desk.invariant.backed, c.loop-desk.invariant.bounded) in
     let same : c.lattice.result.now ≡ g.S.Steps.levels c.args.steps.now = c.lattice.ensures ∙ c.loop-desk.invariant.same_levels in
     let known : IfSome (g.D.Desk.told c.loop-desk.desk)
-    (ReadFor (g.S.Steps.levels c.args.steps.now) c.args.channel Line c.loop-desk.lines c.next.new.self c.in-Line.ensures.read.count)
+    (ReadFor (g.S.Steps.levels c.args.steps.now) c.args.channel Line c.loop-desk.lines c.next.new.self c.in-Line.ensures.read.asked c.in-Line.ensures.read.count)
     = read_known (g.S.Steps.levels c.args.steps.now) c.lattice.result.now c.args.channel Line c.loop-desk.lines c.next.new.self
-    c.in-Line.ensures.read.count _ (g.D.Desk.told c.loop-desk.desk) same
+    c.in-Line.ensures.read.asked c.in-Line.ensures.read.count _ (g.D.Desk.told c.loop-desk.desk) same
     (read_count c.args.channel c.in-Line.ensures.read.count (g.D.Desk.given c.loop-desk.desk) (g.D.Desk.given c.next.new.desk)
-    c.in-Line.ensures.read.given) c.in-Line.ensures.least (c.in-Line.ensures.by few) in
+    c.in-Line.ensures.read.given) c.in-Line.ensures.read.least (c.in-Line.ensures.by few) in
     let stays : g.D.Desk.given c.step_line.new.desk c.args.channel ≡ g.D.Desk.given c.next.new.desk c.args.channel = ap (λ (f : ℕ → ℕ). f c.args.channel) c.in-Ok.ensures.given in
     let gave : g.D.Desk.given c.step_line.new.desk c.args.channel ≡ g.D.Desk.given c.loop-desk.desk c.args.channel
     + c.in-Line.ensures.read.count = stays ∙ number-at _ _ _ _ c.in-Line.ensures.read.given in
@@ -95,7 +95,7 @@ loop-desk-preserved g c =
           c.loop-desk.invariant.back (g.S.Steps.levels c.args.steps.now) (g.S.Steps.fields c.args.steps.now) c.args.channel
           (g.S.Steps.behind c.loop-desk.steps) (g.S.Steps.behind c.step_line.new.steps) c.loop-desk.lines c.next.new.self c.loop-desk.cycle
           c.step_line.new.cycle (g.D.Desk.given c.loop-desk.desk c.args.channel) (g.D.Desk.given c.step_line.new.desk c.args.channel)
-          c.in-Line.ensures.read.count c.loop-desk.waiting.bytes c.step_line.new.waiting.bytes (g.D.Desk.told c.args.desk.now)
+          c.in-Line.ensures.read.asked c.in-Line.ensures.read.count c.loop-desk.waiting.bytes c.step_line.new.waiting.bytes (g.D.Desk.told c.args.desk.now)
           (g.D.Desk.told c.loop-desk.desk) (g.D.Desk.told c.next.new.desk) (g.D.Desk.told c.step_line.new.desk)
           c.lines_follow.ensures.goes_on few c.in-Line.ensures.fields c.in-Line.ensures.count c.in-Ok.ensures.cycle c.in-Ok.ensures.most
           c.in-Ok.ensures.behind c.in-Ok.ensures.shown c.in-Ok.ensures.quiet gave c.in-Line.ensures.read.told known inv.along;
@@ -122,15 +122,15 @@ returns-in-Err-clause-broken g c =
     let few : c.loop-desk.lines.count < 2 ^ 32 = omega (arith, c.loop-desk.invariant.backed, c.loop-desk.invariant.bounded) in
     let same : c.lattice.result.now ≡ g.S.Steps.levels c.args.steps.now = c.lattice.ensures ∙ c.loop-desk.invariant.same_levels in
     let known : IfSome (g.D.Desk.told c.loop-desk.desk)
-    (ReadFor (g.S.Steps.levels c.args.steps.now) c.args.channel Line c.loop-desk.lines c.next.new.self c.in-Line.ensures.read.count)
+    (ReadFor (g.S.Steps.levels c.args.steps.now) c.args.channel Line c.loop-desk.lines c.next.new.self c.in-Line.ensures.read.asked c.in-Line.ensures.read.count)
     = read_known (g.S.Steps.levels c.args.steps.now) c.lattice.result.now c.args.channel Line c.loop-desk.lines c.next.new.self
-    c.in-Line.ensures.read.count _ (g.D.Desk.told c.loop-desk.desk) same
+    c.in-Line.ensures.read.asked c.in-Line.ensures.read.count _ (g.D.Desk.told c.loop-desk.desk) same
     (read_count c.args.channel c.in-Line.ensures.read.count (g.D.Desk.given c.loop-desk.desk) (g.D.Desk.given c.next.new.desk)
-    c.in-Line.ensures.read.given) c.in-Line.ensures.least (c.in-Line.ensures.by few) in
+    c.in-Line.ensures.read.given) c.in-Line.ensures.read.least (c.in-Line.ensures.by few) in
     cut (g.S.Steps.shows c.args.steps.now) (g.S.Steps.shows c.loop-desk.steps) (g.S.Steps.shows c.step_line.new.steps)
     c.loop-desk.invariant.back (λ cycles text h. c.loop-desk.invariant.back cycles text (c.in-Err.ensures.same_shows cycles text h))
     (g.S.Steps.levels c.args.steps.now) (g.S.Steps.fields c.args.steps.now) c.args.channel (g.S.Steps.behind c.loop-desk.steps)
-    c.loop-desk.lines c.next.new.self c.loop-desk.cycle (g.D.Desk.given c.loop-desk.desk c.args.channel) c.in-Line.ensures.read.count c.loop-desk.waiting.bytes
+    c.loop-desk.lines c.next.new.self c.loop-desk.cycle (g.D.Desk.given c.loop-desk.desk c.args.channel) c.in-Line.ensures.read.asked c.in-Line.ensures.read.count c.loop-desk.waiting.bytes
     c.lines_follow.ensures.goes_on few c.in-Line.ensures.fields c.in-Line.ensures.count (g.D.Desk.told c.args.desk.now)
     (g.D.Desk.told c.loop-desk.desk) (g.D.Desk.told c.next.new.desk) (g.D.Desk.told c.step_line.new.desk) c.in-Line.ensures.read.told
     c.in-Err.ensures.cut known c.loop-desk.invariant.along
@@ -148,7 +148,7 @@ pub returns-in-Err-clause-cause : goal.returns-in-Err-clause-cause
 returns-in-Err-clause-cause g c = λ sure.
     cut_cause (g.S.Steps.shows c.args.steps.now) (g.S.Steps.shows c.loop-desk.steps) (g.S.Steps.levels c.args.steps.now)
     (g.S.Steps.fields c.args.steps.now) c.args.channel (g.S.Steps.behind c.loop-desk.steps) c.loop-desk.lines c.loop-desk.cycle
-    (g.D.Desk.given c.loop-desk.desk c.args.channel) c.in-Line.ensures.read.count c.loop-desk.waiting.bytes (c.loop-desk.waiting.bytes ++ c.in-Err.ensures.cut.text)
+    (g.D.Desk.given c.loop-desk.desk c.args.channel) c.in-Line.ensures.read.asked c.in-Line.ensures.read.count c.loop-desk.waiting.bytes (c.loop-desk.waiting.bytes ++ c.in-Err.ensures.cut.text)
     c.requires.above (g.D.Desk.told c.args.desk.now) (g.D.Desk.told c.loop-desk.desk) (g.D.Desk.told c.next.new.desk)
     (g.D.Desk.told c.step_line.new.desk) c.in-Line.ensures.read.told c.in-Err.ensures.cut.cut
     (c.in-Err.ensures.cause (c.in-Line.ensures.sure (c.loop-desk.invariant.sure sure))) c.loop-desk.invariant.along
@@ -164,14 +164,14 @@ returns-in-End-clause-done g c =
     (λ t n. Tells End (to_come ls c.loop-desk.lines (rest_of t c.args.channel)) c.next.new.self.line
     (to_come ls c.next.new.self (rest_of n c.args.channel)))) same (c.in-End.ensures.lines few) in
     let known : IfSome (g.D.Desk.told c.loop-desk.desk)
-    (ReadFor (g.S.Steps.levels c.args.steps.now) c.args.channel End c.loop-desk.lines c.next.new.self c.in-End.ensures.read.count)
+    (ReadFor (g.S.Steps.levels c.args.steps.now) c.args.channel End c.loop-desk.lines c.next.new.self c.in-End.ensures.read.asked c.in-End.ensures.read.count)
     = read_known (g.S.Steps.levels c.args.steps.now) c.lattice.result.now c.args.channel End c.loop-desk.lines c.next.new.self
-    c.in-End.ensures.read.count _ (g.D.Desk.told c.loop-desk.desk) same
+    c.in-End.ensures.read.asked c.in-End.ensures.read.count _ (g.D.Desk.told c.loop-desk.desk) same
     (read_count c.args.channel c.in-End.ensures.read.count (g.D.Desk.given c.loop-desk.desk) (g.D.Desk.given c.next.new.desk)
-    c.in-End.ensures.read.given) c.in-End.ensures.least (c.in-End.ensures.by few) in
+    c.in-End.ensures.read.given) c.in-End.ensures.read.least (c.in-End.ensures.by few) in
     ended (g.S.Steps.shows c.args.steps.now) (g.S.Steps.shows c.loop-desk.steps) c.loop-desk.invariant.back
     (g.S.Steps.levels c.args.steps.now) (g.S.Steps.fields c.args.steps.now) c.args.channel (g.S.Steps.behind c.loop-desk.steps)
-    c.loop-desk.lines c.loop-desk.cycle (g.D.Desk.given c.loop-desk.desk c.args.channel) c.in-End.ensures.read.count
+    c.loop-desk.lines c.loop-desk.cycle (g.D.Desk.given c.loop-desk.desk c.args.channel) c.in-End.ensures.read.asked c.in-End.ensures.read.count
     c.loop-desk.waiting.bytes c.next.new.self (g.D.Desk.told c.args.desk.now) (g.D.Desk.told c.loop-desk.desk) (g.D.Desk.told c.next.new.desk)
     c.lines_follow.ensures.ends c.in-End.ensures.read.told tells known c.loop-desk.invariant.along
 
@@ -203,14 +203,14 @@ returns-in-Fault-clause-done g c =
     (λ t n. Tells (Fault c.in-Fault.fault) (to_come ls c.loop-desk.lines (rest_of t c.args.channel)) c.next.new.self.line
     (to_come ls c.next.new.self (rest_of n c.args.channel)))) same (c.in-Fault.ensures.lines few) in
     let known : IfSome (g.D.Desk.told c.loop-desk.desk)
-    (ReadFor (g.S.Steps.levels c.args.steps.now) c.args.channel (Fault c.in-Fault.fault) c.loop-desk.lines c.next.new.self c.in-Fault.ensures.read.count)
+    (ReadFor (g.S.Steps.levels c.args.steps.now) c.args.channel (Fault c.in-Fault.fault) c.loop-desk.lines c.next.new.self c.in-Fault.ensures.read.asked c.in-Fault.ensures.read.count)
     = read_known (g.S.Steps.levels c.args.steps.now) c.lattice.result.now c.args.channel (Fault c.in-Fault.fault) c.loop-desk.lines
-    c.next.new.self c.in-Fault.ensures.read.count _ (g.D.Desk.told c.loop-desk.desk) same
+    c.next.new.self c.in-Fault.ensures.read.asked c.in-Fault.ensures.read.count _ (g.D.Desk.told c.loop-desk.desk) same
     (read_count c.args.channel c.in-Fault.ensures.read.count (g.D.Desk.given c.loop-desk.desk) (g.D.Desk.given c.next.new.desk)
-    c.in-Fault.ensures.read.given) c.in-Fault.ensures.least (c.in-Fault.ensures.by few) in
+    c.in-Fault.ensures.read.given) c.in-Fault.ensures.read.least (c.in-Fault.ensures.by few) in
     refused (g.S.Steps.shows c.args.steps.now) (g.S.Steps.shows c.loop-desk.steps) c.loop-desk.invariant.back
     (g.S.Steps.levels c.args.steps.now) (g.S.Steps.fields c.args.steps.now) c.args.channel (g.S.Steps.behind c.loop-desk.steps)
-    c.loop-desk.lines c.loop-desk.cycle (g.D.Desk.given c.loop-desk.desk c.args.channel) c.in-Fault.ensures.read.count
+    c.loop-desk.lines c.loop-desk.cycle (g.D.Desk.given c.loop-desk.desk c.args.channel) c.in-Fault.ensures.read.asked c.in-Fault.ensures.read.count
     c.loop-desk.waiting.bytes c.next.new.self c.in-Fault.fault (g.D.Desk.told c.args.desk.now) (g.D.Desk.told c.loop-desk.desk) (g.D.Desk.told c.next.new.desk)
     c.lines_follow.ensures.stops c.in-Fault.ensures.read.told tells known c.loop-desk.invariant.along
 
@@ -239,9 +239,9 @@ returns-in-Failed-clause-broken g c =
     c.in-Failed.ensures.read.given) (c.in-Failed.ensures.wanted (search rules)) in
     broken (g.S.Steps.shows c.args.steps.now) (g.S.Steps.shows c.loop-desk.steps) c.loop-desk.invariant.back
     (g.S.Steps.levels c.args.steps.now) (g.S.Steps.fields c.args.steps.now) c.args.channel (g.S.Steps.behind c.loop-desk.steps)
-    c.loop-desk.lines c.loop-desk.cycle (g.D.Desk.given c.loop-desk.desk c.args.channel) c.in-Failed.ensures.read.count
+    c.loop-desk.lines c.loop-desk.cycle (g.D.Desk.given c.loop-desk.desk c.args.channel) c.in-Failed.ensures.read.asked c.in-Failed.ensures.read.count
     c.loop-desk.waiting.bytes c.requires.above (g.D.Desk.told c.args.desk.now) (g.D.Desk.told c.loop-desk.desk) (g.D.Desk.told c.next.new.desk)
-    c.in-Failed.ensures.read.told wants c.loop-desk.invariant.along
+    c.in-Failed.ensures.read.told wants c.in-Failed.ensures.read.least c.loop-desk.invariant.along
 
 pub returns-in-Failed-clause-faults : goal.returns-in-Failed-clause-faults
 returns-in-Failed-clause-faults g c = c.in-Failed.ensures.faults ∙ ap counted c.loop-desk.invariant.faults
@@ -260,7 +260,7 @@ returns-in-Failed-clause-cause g c = λ sure.
     c.in-Failed.ensures.read.given) (c.in-Failed.ensures.wanted (search rules)) in
     broken_cause (g.S.Steps.shows c.args.steps.now) (g.S.Steps.shows c.loop-desk.steps) c.loop-desk.invariant.back
     (g.S.Steps.levels c.args.steps.now) (g.S.Steps.fields c.args.steps.now) c.args.channel (g.S.Steps.behind c.loop-desk.steps)
-    c.loop-desk.lines c.loop-desk.cycle (g.D.Desk.given c.loop-desk.desk c.args.channel) c.in-Failed.ensures.read.count c.loop-desk.waiting.bytes
+    c.loop-desk.lines c.loop-desk.cycle (g.D.Desk.given c.loop-desk.desk c.args.channel) c.in-Failed.ensures.read.asked c.in-Failed.ensures.read.count c.loop-desk.waiting.bytes
     (g.D.Desk.given c.next.new.desk c.args.channel) (g.D.Desk.told c.args.desk.now) (g.D.Desk.told c.loop-desk.desk) (g.D.Desk.told c.next.new.desk) c.loop-desk.invariant.bounded
     (number-at _ _ _ _ c.in-Failed.ensures.read.given) (c.in-Failed.ensures.bounded c.loop-desk.invariant.bounded)
     c.in-Failed.ensures.read.told wants (c.in-Failed.ensures.cause (search rules) (c.loop-desk.invariant.sure sure)) c.loop-desk.invariant.along
