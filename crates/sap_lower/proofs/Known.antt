@@ -107,17 +107,17 @@ module _ (widths : Name → ℕ) (v : Valuation) (ws : List Wire) (given : Gives
   -- facts hold
 
   test_more : (of : Name → List Fact) → ((m : Name) → (v.value m == 0) ≡ false → FactsHold v (of m)) → (n : Name) (o : Option Right) → right_of ws n ≡ o
-      → (v.value n == 0) ≡ false → FactsHold v (told_by_test of n o)
+      → (v.value n == 0) ≡ false → FactsHold v (told_by_test of o)
   test_more of hold n (Some (Two And (Named a) (Named b))) e h =
       let t = both_set (v.value a) (v.value b) (v.value n) (right_told n (Two And (Named a) (Named b)) e).value h in
       all_append (FactHolds v) (of a) (of b) (hold a t.0) (hold b t.1)
   test_more of hold n (Some (Two Eq (Named a) (Constant w x))) e h =
       (equal_test (v.value a) x (eq_told (v.value a) x (v.value n) (right_told n (Two Eq (Named a) (Constant w x)) e).value h), tt)
-  test_more of hold n _ e h = (h, tt)
+  test_more of hold n _ e h = tt
 
   test_hold : (k : ℕ) (n : Name) → (v.value n == 0) ≡ false → FactsHold v (test_facts k ws n)
   test_hold zero n h = tt
-  test_hold (suc k) n h = test_more (test_facts k ws) (λ m g. test_hold k m g) n (right_of ws n) refl h
+  test_hold (suc k) n h = (h, test_more (test_facts k ws) (λ m g. test_hold k m g) n (right_of ws n) refl h)
 
   operand_hold : (k : ℕ) (o : Operand) → (operand_value v o == 0) ≡ false → FactsHold v (of_operand (test_facts k ws) o)
   operand_hold k (Named n) h = test_hold k n h
@@ -180,17 +180,19 @@ module _ (widths : Name → ℕ) (v : Valuation) (ws : List Wire) (given : Gives
     is_apart n x a h = never_both (v.value n == x) h (any_tells (differs n x) (differs_tells n x) fs hold a)
 
     right_wrong : (operand : Name → Bool) → ((m : Name) → operand m ≡ true → (v.value m == 0) ≡ false → ⊥) → (n : Name) (o : Option Right) → right_of ws n ≡ o
-        → right_denied fs operand n o ≡ true → (v.value n == 0) ≡ false → ⊥
+        → right_denied fs operand o ≡ true → (v.value n == 0) ≡ false → ⊥
     right_wrong operand wrong n (Some (Two And (Named a) (Named b))) e d h =
         let t = both_set (v.value a) (v.value b) (v.value n) (right_told n (Two And (Named a) (Named b)) e).value h in
         or_split (operand a) (operand b) d (λ x. wrong a x t.0) (λ x. wrong b x t.1)
     right_wrong operand wrong n (Some (Two Eq (Named a) (Constant w x))) e d h =
         is_apart a x d (eq_told (v.value a) x (v.value n) (right_told n (Two Eq (Named a) (Constant w x)) e).value h)
-    right_wrong operand wrong n _ e d h = is_off n d h
+    right_wrong operand wrong n _ e d h = absurd (cc)
 
     test_wrong : (k : ℕ) (n : Name) → test_denied k ws fs n ≡ true → (v.value n == 0) ≡ false → ⊥
     test_wrong zero n d h = absurd (cc)
-    test_wrong (suc k) n d h = right_wrong (test_denied k ws fs) (λ m a g. test_wrong k m a g) n (right_of ws n) refl d h
+    test_wrong (suc k) n d h =
+        or_split (is_clear fs n) (right_denied fs (test_denied k ws fs) (right_of ws n)) d (λ x. is_off n x h)
+        (λ x. right_wrong (test_denied k ws fs) (λ m a g. test_wrong k m a g) n (right_of ws n) refl x h)
 
     operand_wrong : (k : ℕ) (o : Operand) → of_name (test_denied k ws fs) o ≡ true → (operand_value v o == 0) ≡ false → ⊥
     operand_wrong k (Named n) d h = test_wrong k n d h

@@ -29,16 +29,16 @@ abbrev pub is_zero : Operand → Bool
 is_zero (Named x) = false
 is_zero (Constant w n) = n == 0
 
--- What the right side of a test tells where the test isn't 0; `of` is what its operands tell.
-abbrev pub told_by_test : (of : Name → List Fact) → Name → Option Right → List Fact
-told_by_test of n (Some (Two And (Named a) (Named b))) = of a ++ of b
-told_by_test of n (Some (Two Eq (Named a) (Constant w x))) = Equals a x ∷ []
-told_by_test of n _ = IsSet n ∷ []
+-- What the right side of a test tells where the test isn't 0: the operands of a conjunction aren't 0, and what it compares has the constant's number.
+abbrev pub told_by_test : (of : Name → List Fact) → Option Right → List Fact
+told_by_test of (Some (Two And (Named a) (Named b))) = of a ++ of b
+told_by_test of (Some (Two Eq (Named a) (Constant w x))) = Equals a x ∷ []
+told_by_test of _ = []
 
--- What is known where a test isn't 0: the operands of a conjunction aren't 0, and what it compares has the constant's number.
+-- What is known where a test isn't 0: that, and what its right side tells.
 abbrev pub test_facts : (most : ℕ) → List Wire → Name → List Fact
 test_facts zero ws n = []
-test_facts (suc k) ws n = told_by_test (test_facts k ws) n (right_of ws n)
+test_facts (suc k) ws n = IsSet n ∷ told_by_test (test_facts k ws) (right_of ws n)
 
 abbrev pub of_operand : (Name → List Fact) → Operand → List Fact
 of_operand of (Named x) = of x
@@ -60,7 +60,7 @@ gate_facts (suc k) ws (Named n) = told_by_gate ws (gate_facts k ws) n (right_of 
 gate_facts (suc k) ws (Constant w x) = []
 
 abbrev pub gates : ℕ
-gates = 6
+gates = 16
 
 abbrev pub facts_of : List Wire → (gate : Operand) → List Fact
 facts_of ws o = gate_facts gates ws o

@@ -41,15 +41,16 @@ abbrev pub of_name : (Name → Bool) → Operand → Bool
 of_name holds (Named x) = holds x
 of_name holds (Constant w x) = false
 
-abbrev pub right_denied : List Fact → (operand : Name → Bool) → Name → Option Right → Bool
-right_denied fs operand n (Some (Two And (Named a) (Named b))) = operand a || operand b
-right_denied fs operand n (Some (Two Eq (Named a) (Constant w x))) = is_other fs a x
-right_denied fs operand n _ = is_clear fs n
+-- The right side of a test gives 0 where the facts hold: one that it joins is 0, or what it compares has another number.
+abbrev pub right_denied : List Fact → (operand : Name → Bool) → Option Right → Bool
+right_denied fs operand (Some (Two And (Named a) (Named b))) = operand a || operand b
+right_denied fs operand (Some (Two Eq (Named a) (Constant w x))) = is_other fs a x
+right_denied fs operand _ = false
 
--- A test is 0 where the facts hold: by what it compares, by one that it joins, or because they say so.
+-- A test is 0 where the facts hold: because they say so, or by its right side.
 abbrev pub test_denied : (most : ℕ) → List Wire → List Fact → Name → Bool
 test_denied zero ws fs n = false
-test_denied (suc k) ws fs n = right_denied fs (test_denied k ws fs) n (right_of ws n)
+test_denied (suc k) ws fs n = is_clear fs n || right_denied fs (test_denied k ws fs) (right_of ws n)
 
 abbrev pub gate_denied : List Wire → List Fact → (outer : Operand → Bool) → Name → Option Right → Bool
 gate_denied ws fs outer n (Some (Choose around test other)) =

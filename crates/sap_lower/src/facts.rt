@@ -20,7 +20,7 @@ pub enum Fact {
 }
 
 /// How many gates around a gate are looked at.
-pub const GATES: u32 = 6;
+pub const GATES: u32 = 16;
 
 /// How deep a test is taken apart.
 pub const TESTS: u32 = 3;
@@ -56,7 +56,7 @@ fn add_equals(
     Ok(())
 }
 
-/// What is known where a test isn't 0: the operands of a conjunction aren't, and what it compares is the constant.
+/// What is known where a test isn't 0: that, the operands of a conjunction aren't, and what it compares is the constant.
 fn add_test(
     alloc: Global,
     facts: &mut Vec<Fact>,
@@ -70,6 +70,7 @@ fn add_test(
     if most == 0 {
         return Ok(());
     }
+    add_set(alloc, facts, test)?;
     match wires.right_of(before, test) {
         Some(Right::Two(Op2::And, Operand::Named(a), Operand::Named(b))) => {
             add_test(alloc, facts, wires, before, most - 1, a)?;
@@ -78,7 +79,7 @@ fn add_test(
         Some(Right::Two(Op2::Eq, Operand::Named(a), Operand::Constant { value, .. })) => {
             add_equals(alloc, facts, a, *value)
         }
-        _ => add_set(alloc, facts, test),
+        _ => Ok(()),
     }
 }
 

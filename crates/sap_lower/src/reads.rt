@@ -68,6 +68,9 @@ fn denies_test(facts: &[Fact], wires: &Wires, before: usize, most: u32, test: &N
     if most == 0 {
         return false;
     }
+    if is_clear(facts, test) {
+        return true;
+    }
     match wires.right_of(before, test) {
         Some(Right::Two(Op2::And, Operand::Named(a), Operand::Named(b))) => {
             denies_test(facts, wires, before, most - 1, a)
@@ -76,7 +79,7 @@ fn denies_test(facts: &[Fact], wires: &Wires, before: usize, most: u32, test: &N
         Some(Right::Two(Op2::Eq, Operand::Named(a), Operand::Constant { value, .. })) => {
             is_other(facts, a, *value)
         }
-        _ => is_clear(facts, test),
+        _ => false,
     }
 }
 
