@@ -6,8 +6,8 @@ from dataclasses import dataclass
 
 from .designs import is_system, parts_of_system
 from .hints import hint
-from .places import FIRST, Document
-from .program import Stop, called, read, told
+from .places import FIRST, Document, place
+from .program import Stop, called, read, read_bytes, read_design, told
 
 
 @dataclass(frozen=True)
@@ -52,7 +52,7 @@ def of_design(path, code, behind):
     """The place of E1 to E18 stands in the line; that of a limit has its name behind it."""
     line, column = map(int, behind[0].split(":"))
     text = meaning(code, behind[1:])
-    met = hint(code, read(path), (line, column)) if code != "E18" else None
+    met = hint(code, read_design(path), (line, column)) if code != "E18" else None
     return Fault(path, (line, column), "error", f"{text} {met}" if met else text)
 
 
@@ -74,14 +74,14 @@ def title_and_cure(code):
 
 def toml_place(path):
     """Where Python's reader finds a document at fault; the start if it doesn't."""
+    data = read_bytes(path)
     try:
-        tomllib.loads(read(path))
+        tomllib.loads(data.decode())
+    except UnicodeDecodeError as fault:
+        return place(data.decode("latin-1"), fault.start)
     except tomllib.TOMLDecodeError as fault:
         found = re.search(r"at line (\d+), column (\d+)", str(fault))
-        text = read(path)
-        return (int(found[1]), int(found[2])) if found else (text.count("\n") + 1, 1)
-    except Stop:
-        pass
+        return (int(found[1]), int(found[2])) if found else (data.count(b"\n") + 1, 1)
     return FIRST
 
 

@@ -146,10 +146,11 @@ class Contexts:
             self.state(state, BOTTOM)
 
     def state(self, state, context):
-        inside = context | self.tags.least(state.name.text)
+        inside, before = context | self.tags.least(state.name.text), len(self.found)
         self.block(state.body, inside, state)
+        falls = [within for command, within, _ in self.found[before:] if isinstance(command.simple, Fall)]
         for child in state.children:
-            self.state(child, inside)
+            self.state(child, self.tags.below_all(falls or [inside]))
 
     def block(self, block, context, state):
         for command in block.commands:

@@ -3,7 +3,7 @@ from dataclasses import dataclass
 
 from . import designs  # noqa: F401  (it makes `model` known)
 from .hints import is_doubled
-from .program import read
+from .program import read_design
 from .tags import Contexts, commands_of, expressions_in, own_expressions
 from model.tokens import tokens_of
 from model.tree import Assign, Binary, Case, Cell, Fall, Goto, If, Number, Otherwise, Read, SetTag, Sized, Then, Write, commands_in, states_below
@@ -33,6 +33,19 @@ class Warning:
         return f"{self.path}:{self.place[0]}:{self.place[1]}: warning: {self.text} [{self.kind}]"
 
 
+class KeptWidths(Widths):
+    """Widths that are looked up once for each expression of a tree: an operand's stand within those of all around it."""
+
+    def __init__(self, declared):
+        super().__init__(declared)
+        self.kept = {}
+
+    def own(self, expression):
+        if id(expression) not in self.kept:
+            self.kept[id(expression)] = super().own(expression)
+        return self.kept[id(expression)]
+
+
 class Warnings:
     """The warnings of a design, whose module tells what folding shows."""
 
@@ -54,7 +67,7 @@ class Warnings:
     # Signs.
 
     def signs(self):
-        tokens = tokens_of(read(self.part.path))
+        tokens = tokens_of(read_design(self.part.path))
         for one, other in zip(tokens, tokens[1:]):
             if is_doubled(one, other):
                 which = "all bits of b are ones" if one.text == "&" else "any bit of b is one"
@@ -153,7 +166,7 @@ class Warnings:
     # Shifts.
 
     def shifts(self):
-        widths = Widths(self.tags.declared)
+        widths = KeptWidths(self.tags.declared)
         for command in commands_of(self.tree):
             for expression, asked in self.asked(command):
                 self.shift(widths, expression, asked)

@@ -38,6 +38,11 @@ CASES = {
             "reg x : 8 enforced low;\nstate P enforced low {\n  fall;\n  state S enforced high {\n    x := 1;\n    goto S;\n  }\n}\n",
             "5:5", "what leads here is never below high", "state S enforced low",
         ),
+        (
+            "input a : 1;\nreg key : 1 enforced high;\nreg x : 8 enforced low;\nstate P enforced low {\n  key := a;\n  if (key) {\n    fall;\n  } else {\n"
+            "    fall;\n  }\n  state S dynamic {\n    x := 1;\n    goto S;\n  }\n}\n",
+            "12:5", "the write of x is refused whenever it is reached: what leads here is never below high", "if (a)",
+        ),
     ],
     "never": [
         (
@@ -118,6 +123,20 @@ class Lint(Folder):
         self.program("compile", "lattice.toml", "d.sapper", "top.v")
         self.assertIn("assign c_2 = 1'd1;", self.held("top.v"))
         self.assertEqual(self.script("lint", "lattice.toml", "d.sapper")[1][0][:24], "d.sapper:6:3: warning: t")
+
+    def test_deep_design(self):
+        """As deep as a design may be: 64 blocks, 64 brackets and 256 tokens of an expression."""
+        expression = "(" * 64 + "~" * 127 + "a" + ")" * 64
+        blocks = "if (a == 1) { " * 63, "}" * 63
+        self.put("d.sapper", f"input a : 8;\nreg x : 8 dynamic;\nstate S enforced low {{\n{blocks[0]}x := {expression};{blocks[1]}\n  goto S;\n}}\n")
+        self.assertEqual(self.done("lint", "lattice.toml", "d.sapper"), [])
+
+    def test_bytes(self):
+        """A comment may have any bytes, and ends at LF alone."""
+        with open(self.path("d.sapper"), "wb") as file:
+            file.write(b"input a : 8; // caf\xe9\r a\ninput b : 8;\nreg x : 8 dynamic;\nstate S enforced low {\n  x := a;\n  goto S;\n}\n")
+        status, lines, errors = self.script("lint", "lattice.toml", "d.sapper")
+        self.assertEqual((status, lines, errors), (1, ["d.sapper:2:7: warning: nothing reads the input b [unread]"], []))
 
     def test_kept_registers(self):
         self.put("d.sapper", "reg x : 8 dynamic;\nreg y : 8 dynamic;\nstate S enforced low {\n  x := 1;\n  y := x;\n  goto S;\n}\n")
