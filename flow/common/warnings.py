@@ -22,6 +22,10 @@ KINDS = {
 }
 
 
+def bits(count):
+    return f"{count} bit" if count == 1 else f"{count} bits"
+
+
 @dataclass(frozen=True)
 class Warning:
     path: str
@@ -201,7 +205,7 @@ class Warnings:
         most = count.value if isinstance(count, (Number, Sized)) else 2 ** (widths.own(count) or 64) - 1
         first = width - value.bit_length() + 1
         if value and most >= first:
-            what = f"the number that is shifted has the {width} bits of its place, and loses some from a count of {max(first, 1)} on"
+            what = f"the number that is shifted has the {bits(width)} of its place, and loses some from a count of {max(first, 1)} on"
             self.warn(expression.start, "shift", f"{what}; if that is meant, write its width, as in `{width}'d{value} << n`")
 
     # Tags of cells.
@@ -214,5 +218,5 @@ class Warnings:
                 width = max(self.part.codes.values()).bit_length()
                 place = f"{retags[0].place[0]}:{retags[0].place[1]}"
                 what = f"the cells of {name} are retagged one by one ({place})"
-                cost = f"their tags are a second memory of {depth} cells of {width} bits, read wherever {name} is"
+                cost = f"their tags are a second memory of {depth} cells of {bits(width)}, read wherever {name} is"
                 self.warn(memory.name.place, "cell-tags", f"{what}: {cost}; a memory for each owner has tags that never change, and cost nothing")
