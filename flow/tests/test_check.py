@@ -9,6 +9,7 @@ from .support import Folder, example
 LATTICES = [
     ("levels = low, high\n", (1, 10), "L1", ""),
     ('levels = ["low"\n', (2, 1), "L1", ""),
+    ('levels = ["low"', (1, 16), "L1", ""),
     ('levels = ["low", "high"]\n', (1, 1), "L2", ""),
     ('levels = ["low", "high"]\nbelow = []\nabove = []\n', (3, 1), "L2", ""),
     ('# one\nlevels = ["low"]\nbelow = []\n', (2, 1), "L3", " (1)"),
@@ -181,8 +182,8 @@ class Check(Folder):
     def test_missing_files(self):
         for words, missing in ((("none.toml", "one.sapper"), "none.toml"), (("lattice.toml", "none.sapper"), "none.sapper"), (("lattice.toml", "none.toml"), "none.toml")):
             self.assertEqual(self.lines(*words), [f"{missing}:1:1: error: the file can't be read"])
-        self.put("system.toml", 'parts = [["p", "gone.sapper"]]\nwires = []\n')
-        self.assertEqual(self.lines("lattice.toml", "system.toml"), ["gone.sapper:1:1: error: the file can't be read"])
+        self.put("system.toml", 'parts = [["p", "one.sapper"],\n  ["q", "gone.sapper"]]\nwires = []\n')
+        self.assertEqual(self.lines("lattice.toml", "system.toml"), ["system.toml:2:9: error: the file gone.sapper of this part can't be read"])
 
     def test_several_files(self):
         self.put("d.sapper", "reg x : 8 dynamic\n")
