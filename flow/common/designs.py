@@ -5,11 +5,14 @@ import sys
 import tomllib
 from dataclasses import dataclass
 
-from .program import TOP, Stop, read, told
+from .program import TOP, Stop, read, read_design, told
 
 sys.path.insert(1, f"{TOP}/test")
 from model.parser import tree_of  # noqa: E402
 from model.tree import Dynamic, Input, Memory, Register, states_below  # noqa: E402
+
+# The parser and what walks a tree call themselves: at most 64 blocks, 64 brackets and 256 tokens of an expression deep, by a dozen calls for each.
+sys.setrecursionlimit(20_000)
 
 
 @dataclass(frozen=True)
@@ -32,7 +35,7 @@ class Part:
         self.codes = {name: int(code) for name, code in re.findall(r"^level (\w+) (\d+)$", report, re.MULTILINE)}
         sites = re.findall(r"^site (\d+) (\d+):(\d+) (\w+) (\w+)$", report, re.MULTILINE)
         self.sites = [Site(int(number), int(line), int(column), kind, name) for number, line, column, kind, name in sites]
-        self.tree = tree_of(read(path))
+        self.tree = tree_of(read_design(path))
 
     def of_sort(self, sort):
         return [one for one in self.tree.declarations if isinstance(one, sort)]

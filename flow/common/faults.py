@@ -6,8 +6,8 @@ from dataclasses import dataclass
 
 from .designs import is_system, parts_of_system
 from .hints import hint
-from .places import FIRST, Document
-from .program import Stop, called, read, told
+from .places import FIRST, Document, place
+from .program import Stop, called, read, read_bytes, read_design, told
 
 
 @dataclass(frozen=True)
@@ -44,15 +44,23 @@ def explained(lattice, path, line):
         places = lattice_place if subject == "lattice" else system_place
         return Fault(file, places(file, code, behind), "error", meaning(code, behind))
     if subject == "desk":
-        return Fault(rest, FIRST, "error", "the file can't be read")
+        return of_reading(lattice, path, rest)
     raise Stop(line)
+
+
+def of_reading(lattice, path, file):
+    """A file that can't be read. A part's is placed where the system file names it: nobody can look into the file itself."""
+    parts = [part for _, part in parts_of_system(path)] if path and is_system(path) and file not in (lattice, path) else []
+    if file not in parts:
+        return Fault(file, FIRST, "error", "the file can't be read")
+    return Fault(path, Document(read(path)).item("parts", parts.index(file) + 1, 2), "error", f"the file {file} of this part can't be read")
 
 
 def of_design(path, code, behind):
     """The place of E1 to E18 stands in the line; that of a limit has its name behind it."""
     line, column = map(int, behind[0].split(":"))
     text = meaning(code, behind[1:])
-    met = hint(code, read(path), (line, column)) if code != "E18" else None
+    met = hint(code, read_design(path), (line, column)) if code != "E18" else None
     return Fault(path, (line, column), "error", f"{text} {met}" if met else text)
 
 
@@ -73,15 +81,15 @@ def title_and_cure(code):
 
 
 def toml_place(path):
-    """Where Python's reader finds a document at fault; the start if it doesn't."""
+    """Where Python's reader finds a document at fault, which may be its end; the start if it finds nothing."""
+    data = read_bytes(path)
     try:
-        tomllib.loads(read(path))
+        tomllib.loads(data.decode())
+    except UnicodeDecodeError as fault:
+        return place(data.decode("latin-1"), fault.start)
     except tomllib.TOMLDecodeError as fault:
         found = re.search(r"at line (\d+), column (\d+)", str(fault))
-        text = read(path)
-        return (int(found[1]), int(found[2])) if found else (text.count("\n") + 1, 1)
-    except Stop:
-        pass
+        return (int(found[1]), int(found[2])) if found else place(data.decode("latin-1"), len(data))
     return FIRST
 
 

@@ -28,10 +28,11 @@ def of_byte(bytes_there):
     signs = {
         "!": "`!a` is `~a` for one bit, and `a == 0` for more.",
         "%": "There is no remainder.",
+        "/*": "A comment begins with `//` and ends with its line.",
         "/": "There is no division.",
         "'": "A width stands in front of `'`, as in `8'd5`.",
     }
-    return signs.get(bytes_there[:1])
+    return signs.get(bytes_there, signs.get(bytes_there[:1]))
 
 
 def of_token(around, tokens, at):
@@ -45,12 +46,39 @@ def of_token(around, tokens, at):
         return f"`{token}` is a keyword, and can't be a name."
     if token == "}" and tokens[at].sort == "sign" and in_case(tokens, at):
         return "A `case` ends with `else {..}`."
+    if token == "=" and in_expression(tokens, at):
+        return "`==` compares."
     if token in ("<=", "=") and (before in (";", "{", "}") or last == "]"):
         return "An assignment is `:=`."
+    if token != "{" and (last == "else" or (last == ")" and word_before_bracket(tokens, at - 1) == "if")):
+        return "Each block stands in `{` and `}`, also one of a single command."
     if token in ("then", "case") or (last in ("then", "case") and tokens[0].text != "sapper"):
         return "`then` and `case` need the first line `sapper 2;`."
     if last == ":=" and token in KEYWORDS_OF_VERSION_2:
         return f"`{token}` is a keyword, and can't be a name."
+    return None
+
+
+def in_expression(tokens, at):
+    """Whether an expression of the command is open here: behind `:=`, or within a bracket."""
+    closed = 0
+    for token in reversed(tokens[:at]):
+        if token.text in (";", "{", "}"):
+            return False
+        closed += {")": 1, "]": 1, "(": -1, "[": -1}.get(token.text, 0)
+        if closed < 0 or token.text == ":=":
+            return True
+    return False
+
+
+def word_before_bracket(tokens, at):
+    """What stands before the parenthesis that is closed here."""
+    closed = 0
+    while at > 0:
+        closed += {")": 1, "(": -1}.get(tokens[at].text, 0)
+        if not closed:
+            return tokens[at - 1].text
+        at -= 1
     return None
 
 

@@ -44,12 +44,25 @@ def missing(*tools):
     return [tool for tool in tools if not shutil.which(tool)]
 
 
+def read_bytes(path):
+    try:
+        with open(path, "rb") as file:
+            return file.read()
+    except OSError as fault:
+        raise Stop(f"{path}: {fault.strerror}", 6) from fault
+
+
 def read(path):
     try:
         with open(path, encoding="utf-8") as file:
             return file.read()
     except (OSError, UnicodeDecodeError) as fault:
         raise Stop(f"{path}: {getattr(fault, 'strerror', None) or 'no text'}", 6) from fault
+
+
+def read_design(path):
+    """A design's text, a character for each byte: columns count bytes, and a comment may have any."""
+    return read_bytes(path).decode("latin-1")
 
 
 def write(path, text):

@@ -124,17 +124,17 @@ class Tags:
                     yield "the authority", self.authority(target.text), [self.codes[tag.name.text]]
             case Goto(target=target):
                 yield from self.within(context, BOTTOM, self.fixed(target.text))
-                yield from self.within(context, self.authority(target.text), self.fixed(state.name.text))
+                yield from self.within(context, self.authority(target.text), self.fixed(state.name.text), f"the authority of {target.text}")
             case Fall():
                 tags = [self.fixed(child.name.text) for child in state.children]
                 yield "what leads here", context, [] if None in tags else tags
 
     @staticmethod
-    def within(context, level, limit):
-        """What leads to a command by itself, and then with what it is made of."""
+    def within(context, level, limit, what="what it is made of"):
+        """What leads to a command, and then what it is made of: their join is within the limit where both are."""
         limits = [] if limit is None else [limit]
         yield "what leads here", context, limits
-        yield "what it is made of", context | level, limits
+        yield what, level, limits
 
 
 class Contexts:
@@ -146,10 +146,11 @@ class Contexts:
             self.state(state, BOTTOM)
 
     def state(self, state, context):
-        inside = context | self.tags.least(state.name.text)
+        inside, before = context | self.tags.least(state.name.text), len(self.found)
         self.block(state.body, inside, state)
+        falls = [within for command, within, _ in self.found[before:] if isinstance(command.simple, Fall)]
         for child in state.children:
-            self.state(child, inside)
+            self.state(child, self.tags.below_all(falls or [inside]))
 
     def block(self, block, context, state):
         for command in block.commands:

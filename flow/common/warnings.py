@@ -3,7 +3,7 @@ from dataclasses import dataclass
 
 from . import designs  # noqa: F401  (it makes `model` known)
 from .hints import is_doubled
-from .program import read
+from .program import read_design
 from .tags import Contexts, commands_of, expressions_in, own_expressions
 from model.tokens import tokens_of
 from model.tree import Assign, Binary, Case, Cell, Fall, Goto, If, Number, Otherwise, Read, SetTag, Sized, Then, Write, commands_in, states_below
@@ -22,6 +22,10 @@ KINDS = {
 }
 
 
+def bits(count):
+    return f"{count} bit" if count == 1 else f"{count} bits"
+
+
 @dataclass(frozen=True)
 class Warning:
     path: str
@@ -31,6 +35,19 @@ class Warning:
 
     def __str__(self):
         return f"{self.path}:{self.place[0]}:{self.place[1]}: warning: {self.text} [{self.kind}]"
+
+
+class KeptWidths(Widths):
+    """Widths that are looked up once for each expression of a tree: an operand's stand within those of all around it."""
+
+    def __init__(self, declared):
+        super().__init__(declared)
+        self.kept = {}
+
+    def own(self, expression):
+        if id(expression) not in self.kept:
+            self.kept[id(expression)] = super().own(expression)
+        return self.kept[id(expression)]
 
 
 class Warnings:
@@ -54,7 +71,7 @@ class Warnings:
     # Signs.
 
     def signs(self):
-        tokens = tokens_of(read(self.part.path))
+        tokens = tokens_of(read_design(self.part.path))
         for one, other in zip(tokens, tokens[1:]):
             if is_doubled(one, other):
                 which = "all bits of b are ones" if one.text == "&" else "any bit of b is one"
@@ -153,7 +170,7 @@ class Warnings:
     # Shifts.
 
     def shifts(self):
-        widths = Widths(self.tags.declared)
+        widths = KeptWidths(self.tags.declared)
         for command in commands_of(self.tree):
             for expression, asked in self.asked(command):
                 self.shift(widths, expression, asked)
@@ -188,7 +205,7 @@ class Warnings:
         most = count.value if isinstance(count, (Number, Sized)) else 2 ** (widths.own(count) or 64) - 1
         first = width - value.bit_length() + 1
         if value and most >= first:
-            what = f"the number that is shifted has the {width} bits of its place, and loses some from a count of {max(first, 1)} on"
+            what = f"the number that is shifted has the {bits(width)} of its place, and loses some from a count of {max(first, 1)} on"
             self.warn(expression.start, "shift", f"{what}; if that is meant, write its width, as in `{width}'d{value} << n`")
 
     # Tags of cells.
@@ -201,5 +218,5 @@ class Warnings:
                 width = max(self.part.codes.values()).bit_length()
                 place = f"{retags[0].place[0]}:{retags[0].place[1]}"
                 what = f"the cells of {name} are retagged one by one ({place})"
-                cost = f"their tags are a second memory of {depth} cells of {width} bits, read wherever {name} is"
+                cost = f"their tags are a second memory of {depth} cells of {bits(width)}, read wherever {name} is"
                 self.warn(memory.name.place, "cell-tags", f"{what}: {cost}; a memory for each owner has tags that never change, and cost nothing")

@@ -9,6 +9,7 @@ from .support import Folder, example
 LATTICES = [
     ("levels = low, high\n", (1, 10), "L1", ""),
     ('levels = ["low"\n', (2, 1), "L1", ""),
+    ('levels = ["low"', (1, 16), "L1", ""),
     ('levels = ["low", "high"]\n', (1, 1), "L2", ""),
     ('levels = ["low", "high"]\nbelow = []\nabove = []\n', (3, 1), "L2", ""),
     ('# one\nlevels = ["low"]\nbelow = []\n', (2, 1), "L3", " (1)"),
@@ -32,8 +33,40 @@ SYSTEMS = [
     (PARTS + 'wires = [["p.x", "q.a", "middle"]]\n', (2, 25), "K9", " (1)"),
 ]
 ONE = "input a : 8;\ninput b : 4;\nreg x : 8 dynamic;\nstate S enforced low {\n  x := a + zext(b, 8);\n  goto S;\n}\n"
+STATE = "state S enforced low {\n"
+# For each code of designs a design, the place, and how the line ends: behind the title what the program names, and the first sentence of the cure.
+DESIGNS = {
+    "E1": (f"input a : 8; // 8 bits\nreg x : 8 dynamic;\n{STATE}  x := a @ 1;\n  goto S;\n}}\n", "4:10", ". Write it with the signs of the language: "
+           "`:= == != <= << >> ( ) { } [ ] : ; , ? = < + - * & | ^ ~`."),
+    "E2": ("reg x : 8 dynamic;\n", "2:1", ". Look at what stands just before the place."),
+    "E3": (f"input a : 8;\nmem a : 8[2] dynamic;\n{STATE}  goto S;\n}}\n", "2:5", ". Give one of them another name."),
+    "E4": (f"{STATE}  goto T;\n}}\n", "2:8", ". Declare it, or write the name that was meant."),
+    "E5": (f"input a : 8;\n{STATE}  a := 1;\n  goto S;\n}}\n", "3:3", ". Use an entity of the right kind."),
+    "E6": (f"reg x : 8 enforced middle;\n{STATE}  goto S;\n}}\n", "1:20", ". Write a level that the lattice file lists under `levels`, or add the level there."),
+    "E7": (f"input a : 8;\nreg x : 4 dynamic;\n{STATE}  x := 1 + a;\n  goto S;\n}}\n", "4:8", ". Take part of the number, `a[3:0]`, or widen it, `zext(a, 16)`."),
+    "E8": (f"reg x : 4 dynamic = 16;\n{STATE}  goto S;\n}}\n", "1:21", ". Write a smaller number, or widen what it is written to."),
+    "E9": (f"reg x : 8 enforced low under high;\n{STATE}  goto S;\n}}\n", "1:20", ". Raise the level behind `enforced`, or lower the one behind `under`, "
+           "so that the second is at or below the first."),
+    "E10": (f"{STATE}}}\n", "2:1", ", in both branches of an `if` that ends it, in each block of a `case` or behind `then`, and in the handler of a transfer, "
+            "and put none before the end, nor into the handler of anything else."),
+    "E11": (f"state P enforced low {{\n  fall;\n  {STATE}    goto P;\n  }}\n}}\n", "4:10", ". Go to a state beside the one in whose body the `goto` stands, "
+            "or to that state itself."),
+    "E12": (f"{STATE}  fall;\n}}\n", "2:3", ". Use `goto`, or give the state a child."),
+    "E14": (f"mem m : 8[2] dynamic;\n{STATE}  m[0] := 1;\n  m[1] := 2;\n  goto S;\n}}\n", "4:3", ". Write in one cycle at most one cell of each memory on each way: "
+            "put the writes into two branches of an `if`, into two states, or into two memories."),
+    "E15": (f"reg x : 8 dynamic;\n{STATE}  x := 1 otherwise {{ }}\n  goto S;\n}}\n", "3:10", ". Leave the handler out, or make the target enforced."),
+    "E16": (f"reg x : 8 dynamic;\n{STATE}  setTag(x, high);\n  goto S;\n}}\n", "3:10", ". Declare the entity enforced, or leave the `setTag` out."),
+    "E17": (f"{STATE}  setTag(S, high);\n  goto S;\n}}\n", "2:10", ". Put the `setTag` into the body of a state of another branch of the tree."),
+    "E18": (f"input {'a' * 41} : 8;\n{STATE}  goto S;\n}}\n", "1:7", " (name). Make the design smaller there: shorter names, an expression in two assignments, "
+            "flatter states."),
+}
 # What is met often, with the sentence for it.
 MET = [
+    ("input a : 1;\nreg x : 8 dynamic;\nstate S enforced low { if (a = 1) { x := 1; } goto S; }\n", "3:30", "E2", "`==` compares."),
+    ("mem m : 1[2] dynamic;\nreg x : 1 dynamic;\nstate S enforced low { x := m[0] = 1; goto S; }\n", "3:34", "E2", "`==` compares."),
+    ("mem m : 8[2] dynamic;\nreg x : 1 dynamic;\nstate S enforced low { m[(x)] = 1; goto S; }\n", "3:31", "E2", "An assignment is `:=`."),
+    ("reg x : 1 dynamic;\nstate S enforced low { if (x == 0) x := 1; goto S; }\n", "2:36", "E2", "Each block stands in `{` and `}`"),
+    ("reg x : 1 dynamic;\nstate S enforced low { if (x == (0)) { x := 1; } else goto S; }\n", "2:55", "E2", "Each block stands in `{` and `}`"),
     ("input a : 8;\nreg x : 8 dynamic;\nstate S enforced low {\n  if (a == 1) { x := 1; } else if (a == 2) { x := 2; }\n  goto S;\n}\n", "4:32", "E2", "There is no `else if`"),
     ("reg [7:0] x dynamic;\n", "1:5", "E2", "The width stands behind the name: `reg x : 8`."),
     ("input [7:0] x;\n", "1:7", "E2", "`input x : 8`."),
@@ -79,6 +112,37 @@ class Check(Folder):
                 cure = line.partition(f"{self.title(code)}{named}. ")[2].split(". ")[0].split(": here")[0].rstrip(".")
                 self.assertIn(cure, " ".join(text.split()))
 
+    def test_lines(self):
+        """The whole of each line, the title aside, which test_designs looks at."""
+        self.assertEqual(set(DESIGNS), {f"E{number}" for number in range(1, 19)} - {"E13"})
+        for code, (text, _, _) in DESIGNS.items():
+            self.put(f"{code}.sapper", text)
+        for (code, (_, place, end)), line in zip(DESIGNS.items(), self.lines("lattice.toml", *(f"{code}.sapper" for code in DESIGNS)), strict=True):
+            self.assertTrue(line.startswith(f"{code}.sapper:{place}: error: {code}: "), line)
+            self.assertTrue(line.endswith(end), line)
+
+    def test_bytes(self):
+        """A comment may have any bytes, columns count them, a line ends at LF alone, and a number may have any count of digits."""
+        more = "9" * 5000
+        for data, place, code, sentence in (
+            (b"input a : 8; // caf\xe9\nreg x : 1 dynamic;\nstate S enforced low { x := a[3]; goto S; }\n", "3:29", "E5", "bit 3 of `a`"),
+            (b"reg x : 8 dynamic;\rstate S enforced low { x = 1; goto S; }\n", "1:45", "E2", "An assignment is `:=`."),
+            (b"// two\r words\nreg x : 8 dynamic;\nstate S enforced low { x = 1; goto S; }\n", "3:26", "E2", "An assignment is `:=`."),
+            (b"/* caf\xc3\xa9 */\n", "1:1", "E1", "A comment begins with `//`"),
+            ("// é\nreg é : 8 dynamic;\n".encode(), "2:5", "E1", "a byte begins no token"),
+            (f"reg x : 8 dynamic = {more};\n".encode(), "1:21", "E1", "a number is badly written"),
+        ):
+            with self.subTest(data=data[:40]):
+                with open(self.path("d.sapper"), "wb") as file:
+                    file.write(data)
+                (told,) = self.lines("lattice.toml", "d.sapper")
+                self.assertTrue(told.startswith(f"d.sapper:{place}: error: {code}: "), told)
+                self.assertIn(sentence, told)
+        with open(self.path("l.toml"), "wb") as file:
+            file.write(b'# levels\nlevels = ["low", "h\xe9"]\nbelow = []\n')
+        (told,) = self.lines("l.toml")
+        self.assertTrue(told.startswith("l.toml:2:20: error: L1: "), told)
+
     def test_lattices(self):
         for text, (line, column), code, named in LATTICES:
             with self.subTest(code=code, text=text):
@@ -118,8 +182,8 @@ class Check(Folder):
     def test_missing_files(self):
         for words, missing in ((("none.toml", "one.sapper"), "none.toml"), (("lattice.toml", "none.sapper"), "none.sapper"), (("lattice.toml", "none.toml"), "none.toml")):
             self.assertEqual(self.lines(*words), [f"{missing}:1:1: error: the file can't be read"])
-        self.put("system.toml", 'parts = [["p", "gone.sapper"]]\nwires = []\n')
-        self.assertEqual(self.lines("lattice.toml", "system.toml"), ["gone.sapper:1:1: error: the file can't be read"])
+        self.put("system.toml", 'parts = [["p", "one.sapper"],\n  ["q", "gone.sapper"]]\nwires = []\n')
+        self.assertEqual(self.lines("lattice.toml", "system.toml"), ["system.toml:2:9: error: the file gone.sapper of this part can't be read"])
 
     def test_several_files(self):
         self.put("d.sapper", "reg x : 8 dynamic\n")

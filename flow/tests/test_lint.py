@@ -27,6 +27,10 @@ CASES = {
             "input a : 8;\nreg x : 8 enforced high under low;\nreg y : 8 enforced high;\nstate S enforced low {\n  y := a;\n  x := y;\n  setTag(x, tag(y));\n  goto S;\n}\n",
             "7:3", "the `setTag` of x is refused", "setTag(x, tag(a))",
         ),
+        (
+            "state S enforced low {\n  goto Q;\n}\nstate Q enforced high under high {\n  goto Q;\n}\n",
+            "2:3", "the authority of Q is never below high, and its tag would have to be at or below low", "Q enforced high under low",
+        ),
         ("reg x : 8 enforced high under high;\nstate S enforced low {\n  setTag(x, low);\n  goto S;\n}\n", "3:3", "the authority is never below high", "reg x : 8 enforced high under low"),
     ],
     "context": [
@@ -37,6 +41,11 @@ CASES = {
         (
             "reg x : 8 enforced low;\nstate P enforced low {\n  fall;\n  state S enforced high {\n    x := 1;\n    goto S;\n  }\n}\n",
             "5:5", "what leads here is never below high", "state S enforced low",
+        ),
+        (
+            "input a : 1;\nreg key : 1 enforced high;\nreg x : 8 enforced low;\nstate P enforced low {\n  key := a;\n  if (key) {\n    fall;\n  } else {\n"
+            "    fall;\n  }\n  state S dynamic {\n    x := 1;\n    goto S;\n  }\n}\n",
+            "12:5", "the write of x is refused whenever it is reached: what leads here is never below high", "if (a)",
         ),
     ],
     "never": [
@@ -64,12 +73,12 @@ CASES = {
     ],
     "shift": [
         ("input a : 4;\nreg x : 8 dynamic;\nstate S enforced low {\n  x := 1 << a;\n  goto S;\n}\n", "4:8", "loses some from a count of 8 on", "x := 8'd1 << a"),
-        ("input a : 1;\nreg x : 8 dynamic;\nstate S enforced low {\n  if (1 << a) {\n    x := 1;\n  }\n  goto S;\n}\n", "4:7", "has the 1 bits of its place", "if (a)"),
+        ("input a : 1;\nreg x : 8 dynamic;\nstate S enforced low {\n  if (1 << a) {\n    x := 1;\n  }\n  goto S;\n}\n", "4:7", "has the 1 bit of its place", "if (a)"),
     ],
     "cell-tags": [
         (
             "input a : 2;\nmem m : 8[4] enforced low;\nreg x : 8 dynamic;\nstate S enforced low {\n  x := m[a];\n  setTag(m[a], high);\n  goto S;\n}\n",
-            "2:5", "a second memory of 4 cells of 1 bits", None,
+            "2:5", "a second memory of 4 cells of 1 bit, read", None,
         ),
     ],
 }
@@ -81,7 +90,8 @@ def mended(text, place, by):
         return re.sub(r"  setTag\(m.*\n", "", text)
     replaced = {
         "a & b": "a && b", "a | |b": "a || b", "x := a": "x := key", "m[a] := 5": "m[a] := k[a]", "setTag(x, tag(a))": "setTag(x, tag(y))",
-        "reg x : 8 enforced high under low": "reg x : 8 enforced high under high", "if (a)": None, "state S enforced low": "state S enforced high",
+        "reg x : 8 enforced high under low": "reg x : 8 enforced high under high", "Q enforced high under low": "Q enforced high under high", "if (a)": None,
+        "state S enforced low": "state S enforced high",
         "reg x : 8 enforced low": "reg x : 8 enforced high", "goto Q;\n}\nstate Q": "goto S;\n}\nstate Q", "fall;\n  state A": "goto P;\n  state A",
         "x := a + b": "x := a", "x := m[a]": "x := 2", "x := y": "x := 1", "x := 8'd1 << a": "x := 1 << a",
     }[by]
@@ -118,6 +128,20 @@ class Lint(Folder):
         self.program("compile", "lattice.toml", "d.sapper", "top.v")
         self.assertIn("assign c_2 = 1'd1;", self.held("top.v"))
         self.assertEqual(self.script("lint", "lattice.toml", "d.sapper")[1][0][:24], "d.sapper:6:3: warning: t")
+
+    def test_deep_design(self):
+        """As deep as a design may be: 64 blocks, 64 brackets and 256 tokens of an expression."""
+        expression = "(" * 64 + "~" * 127 + "a" + ")" * 64
+        blocks = "if (a == 1) { " * 63, "}" * 63
+        self.put("d.sapper", f"input a : 8;\nreg x : 8 dynamic;\nstate S enforced low {{\n{blocks[0]}x := {expression};{blocks[1]}\n  goto S;\n}}\n")
+        self.assertEqual(self.done("lint", "lattice.toml", "d.sapper"), [])
+
+    def test_bytes(self):
+        """A comment may have any bytes, and ends at LF alone."""
+        with open(self.path("d.sapper"), "wb") as file:
+            file.write(b"input a : 8; // caf\xe9\r a\ninput b : 8;\nreg x : 8 dynamic;\nstate S enforced low {\n  x := a;\n  goto S;\n}\n")
+        status, lines, errors = self.script("lint", "lattice.toml", "d.sapper")
+        self.assertEqual((status, lines, errors), (1, ["d.sapper:2:7: warning: nothing reads the input b [unread]"], []))
 
     def test_kept_registers(self):
         self.put("d.sapper", "reg x : 8 dynamic;\nreg y : 8 dynamic;\nstate S enforced low {\n  x := 1;\n  y := x;\n  goto S;\n}\n")

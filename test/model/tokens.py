@@ -37,32 +37,35 @@ class Token:
     value: object = None
 
 
-def place_of(text, offset):
-    """The line and the column of a byte, both from 1. A line ends at LF alone."""
-    return text.count("\n", 0, offset) + 1, offset - text.rfind("\n", 0, offset)
-
-
 def tokens_of(text):
-    """All tokens of a text and an `end` behind them, or the first E1."""
-    tokens, offset = [], 0
+    """All tokens of a text and an `end` behind them, or the first E1. Lines and columns count from 1; a line ends at LF alone."""
+    tokens, offset, line, before_line = [], 0, 1, -1
     while offset < len(text):
         space = SPACE.match(text, offset)
         if space:
             offset = space.end()
+            ended = text.count("\n", space.start(), offset)
+            if ended:
+                line, before_line = line + ended, text.rfind("\n", space.start(), offset)
         else:
-            tokens.append(token_at(text, offset))
+            tokens.append(token_at(text, offset, (line, offset - before_line)))
             offset += len(tokens[-1].text)
-    return tokens + [Token("end", "", place_of(text, offset), offset)]
+    return tokens + [Token("end", "", (line, offset - before_line), offset)]
 
 
-def token_at(text, offset):
+def token_at(text, offset, place):
     """The token that begins at a byte."""
-    place = place_of(text, offset)
     for sort, pattern in (("name", NAME), ("sized", SIZED_NUMBER), ("number", NUMBER), ("sign", SIGN)):
         found = pattern.match(text, offset)
         if found:
             return Token(sort, found.group(), place, offset, value_of(sort, found, text, place))
     raise Fault("E1", place)
+
+
+def number_of(digits, base):
+    """The number that digits write. More digits than the largest number has write a larger one, whichever they are."""
+    digits = digits.lstrip("0") or "0"
+    return int(digits, base) if len(digits) <= len(str(LARGEST_NUMBER)) else LARGEST_NUMBER + 1
 
 
 def value_of(sort, found, text, place):
@@ -71,10 +74,10 @@ def value_of(sort, found, text, place):
         return None
     behind = "[A-Za-z_']" if sort == "number" else "[A-Za-z0-9_']"
     if sort == "number":
-        numbers = (int(found.group()),)
+        numbers = (number_of(found.group(), 10),)
     else:
         width, decimal, hexadecimal = found.groups()
-        numbers = (int(width), int(decimal) if decimal else int(hexadecimal, 16))
+        numbers = (number_of(width, 10), number_of(decimal, 10) if decimal else number_of(hexadecimal, 16))
     if max(numbers) > LARGEST_NUMBER or re.compile(behind).match(text, found.end()):
         raise Fault("E1", place)
     return numbers if sort == "sized" else numbers[0]
