@@ -15,6 +15,9 @@ program property protected pure rand real ref reg release repeat return scalared
 strong1 struct super supply0 supply1 sync table task this time tri type typedef union unique unsigned use uwire var vectored virtual void wait wand weak
 while wire with within wor xnor xor""".split())
 
+# What Verilator's -Wall warns of in every wrapper: two modules in a file, outputs that no port shows, and registers that nothing reads.
+QUIET = ("DECLFILENAME", "PINCONNECTEMPTY", "UNUSED")
+
 
 class Wrapper:
     """The text of NAME.v."""
@@ -39,10 +42,14 @@ class Wrapper:
 
     def asked_ties(self):
         """The inputs that are tied, each with its level."""
+        seen = set()
         for words in self.asked.tie:
             name, _, level = words.partition("=")
             if name not in self.inputs:
                 raise Stop(f"--tie {words}: {name} is no input: {', '.join(self.inputs)}", 2)
+            if name in seen:
+                raise Stop(f"--tie {words}: {name} is tied twice", 2)
+            seen.add(name)
             yield name, level
 
     def chosen(self, names):
@@ -52,7 +59,8 @@ class Wrapper:
         return [name for name in self.interface.registers if names is None or name in names]
 
     def text(self):
-        return "\n".join([*self.heading(), *self.outside(), "", *self.core(), ""])
+        quiet = [f"/* verilator {words} */" for words in ("lint_save", *(f"lint_off {name}" for name in QUIET))]
+        return "\n".join([*self.heading(), *quiet, *self.outside(), "", *self.core(), "/* verilator lint_restore */", ""])
 
     def heading(self):
         yield f"// Written by flow/wrap: {self.name}, around the module of {os.path.basename(self.asked.design)}."

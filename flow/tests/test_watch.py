@@ -5,9 +5,11 @@ import re
 from common.interface import Interface
 from common.program import TOP
 
-from .support import Folder, example, needs
+from .support import LATTICE, Folder, example, needs
 
 RUNS = [("processor", "kernel", "one"), ("language", "memory", "memory"), ("language", "modes", "modes"), ("verilog", "comparer", "far"), ("owners", "box", "held")]
+
+DESIGN = "input a : 8;\nreg x : 8 dynamic;\nstate S enforced low {\n  x := a;\n  goto S;\n}\n"
 
 
 def dumped(text):
@@ -116,6 +118,18 @@ class Watch(Folder):
             after = seen(times, cycle + 1)
             for name, value, level in re.findall(r" (\w+)=(\d+)@(\w+)", row):
                 self.assertEqual((after[f"v_{name}"], levels[after[f"t_{name}"]]), (int(value), level))
+
+    @needs("iverilog", "vvp")
+    def test_no_file_that_is_read(self):
+        """Neither OUT nor what is written beside it."""
+        words = [self.put(name, text) for name, text in (("run.levels", LATTICE), ("d.sapper", DESIGN), ("one.txt", "5@low\n"))]
+        told = self.script("watch", *words, "run.vcd")
+        self.assertEqual(told, (2, [], ["watch: run.levels is a file that is read: take another name"]))
+        os.link(self.path("one.txt"), self.path("out.vcd"))
+        told = self.script("watch", *words, "out.vcd")
+        self.assertEqual(told, (2, [], ["watch: out.vcd is a file that is read: take another name"]))
+        self.assertEqual([self.held(name) for name in words], [LATTICE, DESIGN, "5@low\n"])
+        self.assertEqual(self.done("watch", *words, "other.vcd")[0], "other.vcd")
 
     @needs("iverilog", "vvp")
     def test_bad_words(self):
