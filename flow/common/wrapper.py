@@ -19,6 +19,17 @@ while wire with within wor xnor xor""".split())
 QUIET = ("DECLFILENAME", "PINCONNECTEMPTY", "UNUSED")
 
 
+def cell_of(index):
+    """The wire that has the number of a cell."""
+    return "cell_" + index.replace("'d", "_")
+
+
+def by_wire(found):
+    """A write to a memory whose index is no number: of a number Yosys makes registers of the memory, with a warning."""
+    condition, memory, index, value = found.groups()
+    return f"always @(posedge clk) if ({condition}) {memory}[{cell_of(index)}] <= {value};" if "'" in index else found[0]
+
+
 class Wrapper:
     """The text of NAME.v."""
 
@@ -187,6 +198,10 @@ class Wrapper:
         body = self.given.without_unwritten() if self.asked.reset else self.given.body
         if self.is_clearing():
             yield from self.counter()
+        for index in dict.fromkeys(found[3] for found in STORE.finditer(body) if "'" in found[3]):
+            high = int(index.partition("'")[0]) - 1
+            yield f"// The cell of a write, for Yosys by a wire.\nwire [{high}:0] {cell_of(index)};\nassign {cell_of(index)} = {index};"
+        body = STORE.sub(by_wire, body)
         yield STEP.sub(self.stepped, STORE.sub(self.stored, body)) if controls else body
 
     def is_clearing(self):

@@ -71,9 +71,26 @@ class Wrap(Folder):
             for words in ([], ["--reset", "--enable"], ["--reset", "--clear"]):
                 with self.subTest(name=name, words=words):
                     self.wrapped(folder, name, *words)
-                    self.silent("verilator", "--lint-only", "-Wall", "--top-module", "w", "w.v")
-                    self.silent("yosys", "-q", "-p", "read_verilog w.v; hierarchy -check -top w; proc; opt_clean; check -assert")
-                    self.silent("iverilog", "-g2005", "-Wall", "-t", "null", "w.v")
+                    self.tools_say_nothing()
+
+    @needs("verilator", "yosys", "iverilog", "vvp")
+    def test_fixed_cells(self):
+        """Of a write to a cell of which the number stands in the module Yosys would make registers, and warn of it."""
+        self.put("d.sapper", "input a : 8;\nmem m : 8[4] dynamic;\nmem k : 4[2] enforced low;\nreg x : 8 dynamic;\nreg y : 4 dynamic;\nstate S enforced low {\n"
+                 "  x := m[2];\n  y := k[1];\n  m[2] := a;\n  k[1] := a[3:0];\n  goto S;\n}\n")
+        self.put("one.txt", "5@low\n9@high\n7@low\n1@low\n")
+        self.program("compile", "lattice.toml", "d.sapper", "d.v")
+        self.assertIn("v_m[2'd2] <= ", self.held("d.v"))
+        for words in ([], ["--enable"], ["--reset", "--clear", "--enable"]):
+            with self.subTest(words=words):
+                self.done("wrap", "lattice.toml", "d.sapper", "d.v", "w", *words)
+                self.tools_say_nothing()
+        self.compared(self.path("lattice.toml"), self.path("d.sapper"), self.path("one.txt"), random.Random(1), 4)
+
+    def tools_say_nothing(self):
+        self.silent("verilator", "--lint-only", "-Wall", "--top-module", "w", "w.v")
+        self.silent("yosys", "-q", "-p", "read_verilog w.v; hierarchy -check -top w; proc; opt_clean; check -assert")
+        self.silent("iverilog", "-g2005", "-Wall", "-t", "null", "w.v")
 
     @needs("verilator")
     def test_hidden_ports_are_silent(self):
