@@ -15,8 +15,9 @@ program property protected pure rand real ref reg release repeat return scalared
 strong1 struct super supply0 supply1 sync table task this time tri type typedef union unique unsigned use uwire var vectored virtual void wait wand weak
 while wire with within wor xnor xor""".split())
 
-# What Verilator's -Wall warns of in every wrapper: two modules in a file, outputs that no port shows, and registers that nothing reads.
-QUIET = ("DECLFILENAME", "PINCONNECTEMPTY", "UNUSED")
+# What Verilator warns of in wrappers: comparisons with a tag that is tied or that nothing writes; and with -Wall two modules in a file, outputs that no
+# port shows, and registers that nothing reads.
+QUIET = ("CMPCONST", "DECLFILENAME", "PINCONNECTEMPTY", "UNSIGNED", "UNUSED")
 
 
 def cell_of(index):

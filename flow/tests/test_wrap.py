@@ -87,6 +87,17 @@ class Wrap(Folder):
                 self.tools_say_nothing()
         self.compared(self.path("lattice.toml"), self.path("d.sapper"), self.path("one.txt"), random.Random(1), 4)
 
+    @needs("verilator", "yosys", "iverilog")
+    def test_constant_tags(self):
+        """Tags of cells that nothing writes become a number with --reset, and tags of inputs by --tie; both are compared all the same."""
+        self.put("d.sapper", "input a : 1;\ninput b : 8;\nmem m : 8[2] enforced low;\nreg x : 8 dynamic;\nstate S enforced low {\n"
+                 "  x := m[a];\n  if (a < 0) {\n    setTag(m[a], tag(b));\n  }\n  goto S;\n}\n")
+        self.program("compile", "lattice.toml", "d.sapper", "d.v")
+        for words in (["--reset"], ["--tie", "b=low"], ["--reset", "--tie", "a=high", "b=high"]):
+            with self.subTest(words=words):
+                self.done("wrap", "lattice.toml", "d.sapper", "d.v", "w", *words)
+                self.tools_say_nothing()
+
     def tools_say_nothing(self):
         self.silent("verilator", "--lint-only", "-Wall", "--top-module", "w", "w.v")
         self.silent("yosys", "-q", "-p", "read_verilog w.v; hierarchy -check -top w; proc; opt_clean; check -assert")
