@@ -73,6 +73,14 @@ def write(path, text):
         raise Stop(f"{path}: {fault.strerror}", 6) from fault
 
 
+def spare(paths, files):
+    """Stops where one of the paths that are to be written is a file that is read."""
+    for path in paths:
+        for file in files:
+            if os.path.realpath(path) == os.path.realpath(file) or os.path.exists(path) and os.path.exists(file) and os.path.samefile(path, file):
+                raise Stop(f"{path} is a file that is read: take another name", 2)
+
+
 def ended(main):
     """Runs a script's `main` and ends with its status; a Stop is one line on standard error."""
     try:

@@ -15,6 +15,21 @@ program property protected pure rand real ref reg release repeat return scalared
 strong1 struct super supply0 supply1 sync table task this time tri type typedef union unique unsigned use uwire var vectored virtual void wait wand weak
 while wire with within wor xnor xor""".split())
 
+# What Verilator warns of in wrappers: comparisons with a tag that is tied or that nothing writes; and with -Wall two modules in a file, outputs that no
+# port shows, and registers that nothing reads.
+QUIET = ("CMPCONST", "DECLFILENAME", "PINCONNECTEMPTY", "UNSIGNED", "UNUSED")
+
+
+def cell_of(index):
+    """The wire that has the number of a cell."""
+    return "cell_" + index.replace("'d", "_")
+
+
+def by_wire(found):
+    """A write to a memory whose index is no number: of a number Yosys makes registers of the memory, with a warning."""
+    condition, memory, index, value = found.groups()
+    return f"always @(posedge clk) if ({condition}) {memory}[{cell_of(index)}] <= {value};" if "'" in index else found[0]
+
 
 class Wrapper:
     """The text of NAME.v."""
@@ -39,10 +54,14 @@ class Wrapper:
 
     def asked_ties(self):
         """The inputs that are tied, each with its level."""
+        seen = set()
         for words in self.asked.tie:
             name, _, level = words.partition("=")
             if name not in self.inputs:
                 raise Stop(f"--tie {words}: {name} is no input: {', '.join(self.inputs)}", 2)
+            if name in seen:
+                raise Stop(f"--tie {words}: {name} is tied twice", 2)
+            seen.add(name)
             yield name, level
 
     def chosen(self, names):
@@ -52,7 +71,8 @@ class Wrapper:
         return [name for name in self.interface.registers if names is None or name in names]
 
     def text(self):
-        return "\n".join([*self.heading(), *self.outside(), "", *self.core(), ""])
+        quiet = [f"/* verilator {words} */" for words in ("lint_save", *(f"lint_off {name}" for name in QUIET))]
+        return "\n".join([*self.heading(), *quiet, *self.outside(), "", *self.core(), "/* verilator lint_restore */", ""])
 
     def heading(self):
         yield f"// Written by flow/wrap: {self.name}, around the module of {os.path.basename(self.asked.design)}."
@@ -179,6 +199,10 @@ class Wrapper:
         body = self.given.without_unwritten() if self.asked.reset else self.given.body
         if self.is_clearing():
             yield from self.counter()
+        for index in dict.fromkeys(found[3] for found in STORE.finditer(body) if "'" in found[3]):
+            high = int(index.partition("'")[0]) - 1
+            yield f"// The cell of a write, for Yosys by a wire.\nwire [{high}:0] {cell_of(index)};\nassign {cell_of(index)} = {index};"
+        body = STORE.sub(by_wire, body)
         yield STEP.sub(self.stepped, STORE.sub(self.stored, body)) if controls else body
 
     def is_clearing(self):

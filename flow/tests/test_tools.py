@@ -1,7 +1,7 @@
 """The scripts over common tools: run, device, show, regress and job."""
 import os
 
-from .support import Folder, example, needs
+from .support import LATTICE, Folder, example, needs
 
 DESIGN = "input a : 8;\nreg x : 8 dynamic;\nstate S enforced low {\n  x := a + 1;\n  goto S;\n}\n"
 
@@ -32,6 +32,9 @@ class Tools(Folder):
         self.program("wave", "lattice.toml", "top.v", "one.txt", "run.vcd")
         self.assertEqual(self.done("show", "lattice.toml", "d.sapper", "top.v", "run.vcd"), ["run.levels", "run.gtkw", "gtkwave run.vcd run.gtkw"])
         self.assertEqual(self.held("run.levels"), "0 low\n1 high\n")
+        self.put("run.levels", LATTICE)
+        told = self.script("show", "run.levels", "d.sapper", "top.v", "run.vcd")
+        self.assertEqual(told, (2, [], ["show: run.levels is a file that is read: take another name"]))
         self.program("compile", "lattice.toml", example("first/guarded.sapper"), "other.v")
         self.assertEqual(self.script("show", "lattice.toml", "d.sapper", "other.v", "run.vcd"), (1, [], ["show: run.vcd isn't a dump of other.v"]))
 

@@ -5,9 +5,22 @@ import re
 from common.interface import Interface
 from common.program import TOP
 
-from .support import Folder, example, needs
+from .support import LATTICE, Folder, example, needs
 
 RUNS = [("processor", "kernel", "one"), ("language", "memory", "memory"), ("language", "modes", "modes"), ("verilog", "comparer", "far"), ("owners", "box", "held")]
+DESIGN = "input a : 8;\nreg x : 8 dynamic;\nstate S enforced low {\n  x := a;\n  goto S;\n}\n"
+
+# Writes what GTKWave shows of each trace at two times.
+TCL = """set out [open shown w]
+foreach time {35 55} {
+  gtkwave::setMarker $time
+  for {set at 0} {$at < [gtkwave::getTotalNumTraces]} {incr at} {
+    puts $out "$time|[gtkwave::getTraceNameFromIndex $at]|[gtkwave::getTraceValueAtMarkerFromIndex $at]"
+  }
+}
+close $out
+exit
+"""
 
 
 def dumped(text):
@@ -104,6 +117,26 @@ class Watch(Folder):
         self.assertEqual(set(shown), set(widths) - {"clk", "on"})
         self.assertTrue(os.path.exists(self.path("run.levels")))
 
+    @needs("iverilog", "vvp", "xvfb-run", "gtkwave")
+    def test_in_gtkwave(self):
+        """What GTKWave has beside each name in two cycles: states and levels by their names, values in hexadecimal, the cycle in decimal."""
+        self.watched("processor", "kernel", "one", "--memory", "a_mem:3")
+        self.put("shown.tcl", TCL)
+        told = self.call("timeout", "60", "xvfb-run", "-a", "gtkwave", "-S", "shown.tcl", "run.vcd", "run.gtkw")
+        if "Tcl support not compiled" in told.stdout + told.stderr:
+            self.skipTest("gtkwave without Tcl")
+        shown = {}
+        for line in self.held("shown").splitlines():
+            time, name, value = line.split("|")
+            shown.setdefault(int(time), {})[name.partition("[")[0]] = value
+        # In cycle 4 a, whose acc is 5, asks to write it to b's memory, and may not; in cycle 6 the kernel switches.
+        fourth = {"cycle": "4", "state_0": "User", "state_User": "Step", "v_word": "63", "t_word": "a", "v_acc": "05", "t_acc": "a", "mem_a_mem_3": "05",
+                  "memtag_a_mem_3": "a", "v_left": "1", "t_left": "low", "refused_write_b_mem": "1", "level_write_b_mem": "both", "refused_write_acc_3": "0"}
+        sixth = {"cycle": "6", "state_0": "Kernel", "state_User": "-", "v_word": "00", "t_word": "low", "v_acc": "05", "t_acc": "a",
+                 "refused_write_b_mem": "0", "level_write_b_mem": "-"}
+        for time, wanted in ((35, fourth), (55, sixth)):
+            self.assertEqual({name: shown[time][name] for name in wanted}, wanted)
+
     @needs("iverilog", "vvp")
     def test_system(self):
         lattice, system, stimulus = (example(f"linked/{name}") for name in ("lattice.toml", "system.toml", "one.txt"))
@@ -116,6 +149,18 @@ class Watch(Folder):
             after = seen(times, cycle + 1)
             for name, value, level in re.findall(r" (\w+)=(\d+)@(\w+)", row):
                 self.assertEqual((after[f"v_{name}"], levels[after[f"t_{name}"]]), (int(value), level))
+
+    @needs("iverilog", "vvp")
+    def test_no_file_that_is_read(self):
+        """Neither OUT nor what is written beside it."""
+        words = [self.put(name, text) for name, text in (("run.levels", LATTICE), ("d.sapper", DESIGN), ("one.txt", "5@low\n"))]
+        told = self.script("watch", *words, "run.vcd")
+        self.assertEqual(told, (2, [], ["watch: run.levels is a file that is read: take another name"]))
+        os.link(self.path("one.txt"), self.path("out.vcd"))
+        told = self.script("watch", *words, "out.vcd")
+        self.assertEqual(told, (2, [], ["watch: out.vcd is a file that is read: take another name"]))
+        self.assertEqual([self.held(name) for name in words], [LATTICE, DESIGN, "5@low\n"])
+        self.assertEqual(self.done("watch", *words, "other.vcd")[0], "other.vcd")
 
     @needs("iverilog", "vvp")
     def test_bad_words(self):

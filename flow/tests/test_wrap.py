@@ -71,9 +71,56 @@ class Wrap(Folder):
             for words in ([], ["--reset", "--enable"], ["--reset", "--clear"]):
                 with self.subTest(name=name, words=words):
                     self.wrapped(folder, name, *words)
-                    self.silent("verilator", "--lint-only", "--top-module", "w", "w.v")
-                    self.silent("yosys", "-q", "-p", "read_verilog w.v; hierarchy -check -top w; proc; opt_clean; check -assert")
-                    self.silent("iverilog", "-g2005", "-Wall", "-t", "null", "w.v")
+                    self.tools_say_nothing()
+
+    @needs("verilator", "yosys", "iverilog", "vvp")
+    def test_fixed_cells(self):
+        """Of a write to a cell of which the number stands in the module Yosys would make registers, and warn of it."""
+        self.put("d.sapper", "input a : 8;\nmem m : 8[4] dynamic;\nmem k : 4[2] enforced low;\nreg x : 8 dynamic;\nreg y : 4 dynamic;\nstate S enforced low {\n"
+                 "  x := m[2];\n  y := k[1];\n  m[2] := a;\n  k[1] := a[3:0];\n  goto S;\n}\n")
+        self.put("one.txt", "5@low\n9@high\n7@low\n1@low\n")
+        self.program("compile", "lattice.toml", "d.sapper", "d.v")
+        self.assertIn("v_m[2'd2] <= ", self.held("d.v"))
+        for words in ([], ["--enable"], ["--reset", "--clear", "--enable"]):
+            with self.subTest(words=words):
+                self.done("wrap", "lattice.toml", "d.sapper", "d.v", "w", *words)
+                self.tools_say_nothing()
+        self.compared(self.path("lattice.toml"), self.path("d.sapper"), self.path("one.txt"), random.Random(1), 4)
+
+    @needs("verilator", "yosys", "iverilog")
+    def test_constant_tags(self):
+        """Tags of cells that nothing writes become a number with --reset, and tags of inputs by --tie; both are compared all the same."""
+        self.put("d.sapper", "input a : 1;\ninput b : 8;\nmem m : 8[2] enforced low;\nreg x : 8 dynamic;\nstate S enforced low {\n"
+                 "  x := m[a];\n  if (a < 0) {\n    setTag(m[a], tag(b));\n  }\n  goto S;\n}\n")
+        self.program("compile", "lattice.toml", "d.sapper", "d.v")
+        for words in (["--reset"], ["--tie", "b=low"], ["--reset", "--tie", "a=high", "b=high"]):
+            with self.subTest(words=words):
+                self.done("wrap", "lattice.toml", "d.sapper", "d.v", "w", *words)
+                self.tools_say_nothing()
+
+    def tools_say_nothing(self):
+        self.silent("verilator", "--lint-only", "-Wall", "--top-module", "w", "w.v")
+        self.silent("yosys", "-q", "-p", "read_verilog w.v; hierarchy -check -top w; proc; opt_clean; check -assert")
+        self.silent("iverilog", "-g2005", "-Wall", "-t", "null", "w.v")
+
+    @needs("verilator")
+    def test_hidden_ports_are_silent(self):
+        for words in (["--keep", "y"], ["--refusals", "any"], ["--reset", "--refusals", "none", "--keep", "y", "--tie", "a=low"]):
+            with self.subTest(words=words):
+                self.wrapped("language", "memory", *words)
+                for define in ("", "-DSYNTHESIS"):
+                    self.silent("verilator", "--lint-only", "-Wall", *filter(None, [define]), "--top-module", "w", "w.v")
+
+    @needs("verilator")
+    def test_silent_about_itself_alone(self):
+        """What stands behind NAME.v on Verilator's line is warned of as without it: with -Wall, and not without."""
+        self.wrapped("first", "guarded", "--keep", "y")
+        self.put("behind.v", "module behind(input clk, input a); wire idle; w dut(.clk(clk), .v_a({8{a}}), .t_a(a), .v_y(), .t_y(), "
+                 ".refused_write_y(), .level_write_y(), .refused_goto_S(), .level_goto_S(), .refused_any()); endmodule\n")
+        words = ("--top-module", "behind", "w.v", "behind.v")
+        self.silent("verilator", "--lint-only", *words)
+        told = self.call("verilator", "--lint-only", "-Wall", *words)
+        self.assertEqual(set(re.findall(r"%Warning-(\w+): ([\w.]+)", told.stderr)), {("UNUSEDSIGNAL", "behind.v"), ("PINCONNECTEMPTY", "behind.v")}, told.stderr)
 
     @needs("iverilog", "vvp")
     def test_rows_after_reset(self):
@@ -188,6 +235,16 @@ initial begin #1 clk = 1; #1 clk = 0; a = 5; ta = 0; rst = 1; #1 clk = 1; #1 $di
         refused = ["refused_write_k", "level_write_k", "refused_write_y", "level_write_y", "refused_goto_S", "level_goto_S", "refused_any"]
         self.assertEqual(ports, ["clk", "v_a", "v_b", "v_y", "t_y", *refused])
 
+    def test_options_twice(self):
+        """What stands behind an option that is given twice counts together."""
+        lattice, design = example("language/lattice.toml"), example("language/memory.sapper")
+        self.program("compile", lattice, design, "m.v")
+        self.done("wrap", lattice, design, "m.v", "one", "--keep", "x", "y", "--tie", "a=low", "b=high")
+        self.done("wrap", lattice, design, "m.v", "two", "--keep", "y", "--keep", "x", "--tie", "b=high", "--tie", "a=low")
+        self.assertEqual(self.held("one.v"), self.held("two.v").replace("two", "one"))
+        head = self.held("one.v").partition(");")[0]
+        self.assertEqual([f" {name}" in head for name in ("t_a", "t_b", "v_x", "v_y")], [False, False, True, True])
+
     def test_names_of_refusals(self):
         """A site is numbered among those of its kind and entity, and an entity's own number makes no two names the same."""
         writes = "  x := a;\n  x_2 := a;\n  x := a;\n  x := a;\n  x_2 := 1;\n"
@@ -200,6 +257,7 @@ initial begin #1 clk = 1; #1 clk = 0; a = 5; ta = 0; rst = 1; #1 clk = 1; #1 $di
         self.program("compile", lattice, design, "top.v")
         for words, line in (
             (["top.v", "w", "--tie", "b=low"], "--tie b=low: b is no input: a"), (["top.v", "w", "--tie", "a=lower"], "lower is no level: low, high"),
+            (["top.v", "w", "--tie", "a=low", "a=high"], "--tie a=high: a is tied twice"),
             (["top.v", "w", "--keep", "y"], "--keep y: no register: x"), (["top.v", "always"], "always can't be the name of a module"), (["top.v", "2w"], "2w can't be the name of a module"),
         ):
             self.assertEqual(self.script("wrap", lattice, design, *words), (2, [], [f"wrap: {line}"]))
@@ -214,6 +272,17 @@ initial begin #1 clk = 1; #1 clk = 0; a = 5; ta = 0; rst = 1; #1 clk = 1; #1 $di
         status, _, errors = self.script("wrap", lattice, design, "./top.v", "top")
         self.assertEqual((status, self.held("top.v").split("\n")[0]), (2, "// written by sapper"))
         self.assertIn("top.v is a file that is read", errors[-1])
+
+    def test_no_file_that_is_read(self):
+        """Nor a part of a system."""
+        design = self.put("part.v", "input a : 8;\nreg x : 8 dynamic;\nstate S enforced low {\n  x := a;\n  goto S;\n}\n")
+        before = self.held(design)
+        self.put("system.toml", 'parts = [["p", "part.v"], ["q", "part.v"]]\nwires = []\n')
+        self.program("link", "lattice.toml", "system.toml", "linked.v")
+        for name in ("part", "linked", "./part"):
+            told = self.script("wrap", "lattice.toml", "system.toml", "linked.v", name)
+            self.assertEqual(told, (2, [], [f"wrap: {name}.v is a file that is read: take another name"]))
+        self.assertEqual(self.held(design), before)
 
     def two(self):
         self.wrapped("first", "guarded", "--reset", "--enable", "--refusals", "any", top="first")
