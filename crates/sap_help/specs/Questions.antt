@@ -1,5 +1,5 @@
 -- What may be asked of the program beside its commands.
-use Rattle.std.specs.Prelude.{◌≡◌, ◌≤◌, ◌⊎◌, ℕ, Bool, false, not, List, [], ◌∷◌, ◌++◌, take, length, bytes_eq, codes, Option, Some, None, option_map, if◌then◌else◌, nat_eq}
+use Rattle.std.specs.Prelude.{◌≡◌, ◌≤◌, ◌⊎◌, ◌||◌, ℕ, Bool, false, not, List, [], ◌∷◌, ◌++◌, take, length, bytes_eq, codes, Option, Some, None, option_map, if◌then◌else◌, nat_eq}
 use Rattle.sap_desk.specs.Desk.{Told, added}
 use Rattle.sap_help.specs.Codes.{is_code, IsTextOf}
 use Rattle.sap_help.specs.declared.asking.Question.{Question}
@@ -11,10 +11,14 @@ pub data Asked : Type 0 where
   version : Asked
   explanation : (code : List ℕ) → Asked
 
--- --help and --version as the only word, and --explain CODE
+-- The word asks for the help.
+abbrev pub is_help : (word : List ℕ) → Bool
+is_help word = bytes_eq word (codes "--help") || (bytes_eq word (codes "-h") || bytes_eq word (codes "help"))
+
+-- a word for the help, or --version, as the only word, and --explain CODE
 abbrev pub asked_by : List (List ℕ) → Option Asked
 asked_by (word ∷ []) =
-    if bytes_eq word (codes "--help") then Some help
+    if is_help word then Some help
     else (if bytes_eq word (codes "--version") then Some version else None)
 asked_by (word ∷ code ∷ []) = if bytes_eq word (codes "--explain") then Some (explanation code) else None
 asked_by _ = None

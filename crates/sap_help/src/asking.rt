@@ -5,7 +5,7 @@ ghost use Rattle.std.specs.Option.{option_map_or};
 ghost use Rattle.sap_desk.specs.Cause.{counted};
 ghost use Rattle.sap_desk.specs.Desk.{added};
 ghost use Rattle.sap_desk.specs.Whole.{Between, Gained, LostAtMostOne};
-ghost use Rattle.sap_help.specs.Questions.{Asked, IsAnswer, IsAnswered, IsCutOff, IsStatus, Untouched, asked_by, asked_of, is_unknown, line_at};
+ghost use Rattle.sap_help.specs.Questions.{Asked, IsAnswer, IsAnswered, IsCutOff, IsStatus, Untouched, asked_by, asked_of, is_help, is_unknown, line_at};
 
 use crate::explaining::explain;
 use crate::page::{VERSION, help};
@@ -20,10 +20,16 @@ pub(crate) enum Question<'a> {
     Explanation(&'a str),
 }
 
+fn is_help(word: &str) -> bool
+    ensures { result ≡ is_help word.now }
+{
+    word == "--help" || word == "-h" || word == "help"
+}
+
 fn of_one_word<'a>(word: &str) -> Option<Question<'a>>
     ensures { option_map asked_of result ≡ asked_by (word.now ∷ []) }
 {
-    if word == "--help" {
+    if is_help(word) {
         Some(Question::Help)
     } else if word == "--version" {
         Some(Question::Version)

@@ -100,7 +100,11 @@ fn with_commands<'a>(
 
 fn with_options<'a>(alloc: Global, command: Command<'a>) -> Result<Command<'a>, AllocError> {
     command
-        .arg(option(alloc, "help", "Prints this text").action(ArgAction::SetTrue))?
+        .arg(
+            option(alloc, "help", "Prints this text, as the word help does")
+                .short('h')
+                .action(ArgAction::SetTrue),
+        )?
         .arg(option(alloc, "version", "Prints the version").action(ArgAction::SetTrue))?
         .arg(option(
             alloc,
