@@ -5,7 +5,7 @@ use Rattle.sap_bits.specs.declared.Op1.TheVariants.{Not, Neg, AllOnes, AnyOne, O
 use Rattle.sap_bits.specs.declared.Op2.{Op2}
 use Rattle.sap_bits.specs.declared.Op2.TheVariants.{Add, Sub, Mul, And, Or, Xor, Eq, Ne, Lt, Le, Shl, Shr}
 
--- all is modulo 2 ^ w
+-- All is modulo `2 ^ w`.
 abbrev pub value1 : Op1 → (w a : ℕ) → ℕ
 value1 Not w a = 2 ^ w - 1 - a
 value1 Neg w a = (2 ^ w - a) % 2 ^ w
@@ -13,7 +13,7 @@ value1 AllOnes w a = if a == 2 ^ w - 1 then 1 else 0
 value1 AnyOne w a = if a == 0 then 0 else 1
 value1 Odd w a = count_ones a % 2
 
--- a shift by the width or more leaves nothing
+-- A shift by the width or more leaves nothing.
 abbrev pub value2 : Op2 → (w a b : ℕ) → ℕ
 value2 Add w a b = (a + b) % 2 ^ w
 value2 Sub w a b = (2 ^ w + a - b) % 2 ^ w
@@ -28,11 +28,11 @@ value2 Le w a b = if nat_le a b then 1 else 0
 value2 Shl w a b = (a * 2 ^ b) % 2 ^ w
 value2 Shr w a b = a / 2 ^ b
 
--- the bits from lo up to hi
+-- The bits from `lo` up to `hi` are a number of their own.
 abbrev pub slice_of : (a hi lo : ℕ) → ℕ
 slice_of a hi lo = a / 2 ^ lo % 2 ^ (hi + 1 - lo)
 
--- a in front of b, where b has wb bits
+-- The number `a` stands in front of `b`, which has `wb` bits.
 abbrev pub joined : (a wb b : ℕ) → ℕ
 joined a wb b = a * 2 ^ wb + b
 
@@ -42,7 +42,7 @@ RightFits Shl w b = Unit {0}
 RightFits Shr w b = Unit {0}
 RightFits _ w b = b < 2 ^ w
 
--- the width of what an operator gives, on numbers of width w
+-- `width1` is the width of what an operator gives, on numbers of width w.
 abbrev pub width1 : Op1 → ℕ → ℕ
 width1 Not w = w
 width1 Neg w = w

@@ -10,7 +10,7 @@ use Rattle.sap_stream.specs.declared.apart.Apart.{Apart}
 use Rattle.sap_net.specs.Net.{Net}
 use Rattle.sap_interface.specs.Prelude.{named_of, world}
 use Rattle.sap_compile.specs.Compiles.{IsModuleFor}
-use Rattle.sap_files.specs.Prelude.{Ending, no_memory, stream_file, Asks, by, Finds, IsVerdict, agreement_line, difference, Ends, Moment, ending}
+use Rattle.sap_files.specs.Prelude.{Ending, no_memory, stream_file, Asks, with_the, Finds, IsVerdict, agreement_line, difference, Ends, Moment, ending}
 use Rattle.sap_files.specs.declared.failure.Failure.{Failure}
 use Rattle.sap_files.proofs.Ended.{chosen, quiet_self, starved, stopped_by}
 use Rattle.sap_files.proofs.Streams.{stream_fits}
@@ -42,9 +42,9 @@ module _ (lattice : List ℕ) (ls : Levels) (is : IsLatticeOfFile lattice ls) (d
 -- what comparing two streams comes to
 
 pub verdict_ends : (k ls : Levels) → order_of k ≡ order_of ls → (d : DesignTree) (l : ℕ) (one other : List (List Tagged)) (word : List ℕ) (failure : Failure) (m : Moment)
-    → Finds k d l one other word (Err failure) → Ends (by (Option Apart) (IsVerdict (order_of ls) l one other) (compared ls d l word one other)) (ending failure) m m
+    → Finds k d l one other word (Err failure) → Ends (with_the (Option Apart) (IsVerdict (order_of ls) l one other) (compared ls d l word one other)) (ending failure) m m
 verdict_ends k ls same d l one other word failure m found =
-    let a : Asks = by (Option Apart) (IsVerdict (order_of ls) l one other) (compared ls d l word one other) in
+    let a : Asks = with_the (Option Apart) (IsVerdict (order_of ls) l one other) (compared ls d l word one other) in
     let starved_so : ending failure ≡ no_memory → Ends a (ending failure) m m = λ is. subst (λ (e : Ending). Ends a e m m) (sym is) (starved a (quiet_self m)) in
     elim found [
       | inl is ↦ starved_so is

@@ -9,7 +9,7 @@ use Rattle.sap_stream.specs.declared.apart.Apart.{Apart}
 use Rattle.sap_stream.proofs.Agreeing.{at_most_one}
 use Rattle.sap_sim.specs.Labelled.RunOf.{read_for as design_stimulus}
 use Rattle.sap_sim.specs.Simulated.{read_for as module_stimulus}
-use Rattle.sap_files.specs.Prelude.{Ending, Refusal, done, refused, failed, no_memory, taint_refused, wires_refused, status_of, status_of_refusal, IsFree, assembly_file, design_file, design_text_file, lattice_file, module_file, module_stream_file, stream_file, wave_file, IsVerdict, FirstClash, tagged_or_refused, asks_programs, Asks, file, by, AreLawful, MayEnd, end_of}
+use Rattle.sap_files.specs.Prelude.{Ending, Refusal, done, refused, failed, no_memory, taint_refused, wires_refused, status_of, status_of_refusal, IsFree, assembly_file, design_file, design_text_file, lattice_file, module_file, module_stream_file, stream_file, wave_file, IsVerdict, FirstClash, tagged_or_refused, asks_programs, Asks, file, with_the, AreLawful, MayEnd, end_of}
 use Rattle.sap_taint_pass.specs.declared.fault.TaintFault.TheVariants.{Clash}
 use Rattle.sap_taint.proofs.Clashes.{no_clash_with_room, one_clash}
 use Rattle.sap_net.specs.Net.{Net}
@@ -51,7 +51,7 @@ lawful_at word rest (Some l) law = law l
 
 lawful_streams : (ls : Levels) (first second word : List ℕ) (d : DesignTree) (l : ℕ)
     → AreLawful (file first (stream_file 1 ls d) (λ one. file second (stream_file 2 ls d) (λ other.
-    by (Option Apart) (IsVerdict (order_of ls) l one other) (compared ls d l word one other))))
+    with_the (Option Apart) (IsVerdict (order_of ls) l one other) (compared ls d l word one other))))
 lawful_streams ls first second word d l = (
   stream_lawful 1 ls d,
   λ bytes one a. (

@@ -17,7 +17,7 @@ use Rattle.sap_files.specs.Compared.{IsVerdict, difference}
 use Rattle.sap_files.specs.StimulusTexts.{AreDesignRows, AreTraceLines}
 use Rattle.sap_files.specs.Uncompiled.{asks_asm, asks_canonical, asks_cpu, asks_machine, asks_simulated, asks_report, asks_taint, asks_unwave, asks_wave}
 use Rattle.sap_linking.specs.Asked.{asks_link}
-use Rattle.sap_files.specs.Asks.{Asks, file, by, gives, prints, writes, stops, Cause, IsOutput}
+use Rattle.sap_files.specs.Asks.{Asks, file, with_the, gives, prints, writes, stops, Cause, IsOutput}
 
 -- the text is one of a module for the design
 abbrev pub IsModuleText : Levels → DesignTree → (text : List ℕ) → Type 0
@@ -37,7 +37,7 @@ compared ls d l word one other (Some apart) = stops (difference d apart)
 abbrev pub asks_streams : Levels → DesignTree → (first second word : List ℕ) → (l : ℕ) → Asks
 asks_streams ls d first second word l =
     file first (stream_file 1 ls d) (λ one. file second (stream_file 2 ls d) (λ other.
-    by (Option Apart) (IsVerdict (order_of ls) l one other) (compared ls d l word one other)))
+    with_the (Option Apart) (IsVerdict (order_of ls) l one other) (compared ls d l word one other)))
 
 abbrev pub asks : Words → Asks
 asks (compile lattice design out) =
@@ -56,7 +56,7 @@ asks (wave lattice verilog stimulus out) = asks_wave lattice verilog stimulus ou
 asks (unwave lattice dump) = asks_unwave lattice dump
 asks (report lattice design) = asks_report lattice design
 asks (twin lattice design first second level) =
-    file lattice lattice_file (λ ls. by (Option ℕ) (λ named. named ≡ level_named ls.names level) (at_level level (λ l.
+    file lattice lattice_file (λ ls. with_the (Option ℕ) (λ named. named ≡ level_named ls.names level) (at_level level (λ l.
     file design (design_file ls) (λ d. asks_streams ls d first second level l))))
 asks (gen n) = gives (λ text. text ≡ generated_text n)
 asks machine = asks_machine

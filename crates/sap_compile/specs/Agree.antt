@@ -17,12 +17,14 @@ use Rattle.sap_interface.specs.StandsFor.{Named, name, world, depth, StandsFor}
 use Rattle.sap_interface.specs.Compiled.{coded_stream}
 use Rattle.sap_interface.specs.Designs.{named_of, site_count_of}
 
--- a state of the design between two cycles, its numbers within their widths and its levels those of the lattice
+-- The store is a state of the design between two cycles: its numbers are within their widths, and its levels are those
+-- of the lattice.
 pub record IsState (d : Named) (s : Store) : Type 0 where
   pub rests : Resting (world d) s
   pub fits : Fits (world d) s
 
--- Two cycles of a module agree at l: they stand for states of the design, and for refusals, that agree at l.
+-- Two cycles of a module agree at `l`: they stand for states of the design, and for refusals, that agree at `l`. This
+-- speaks of the design; `CyclesLookAlike` says what the numbers of the module themselves have.
 pub record CyclesAgree (d : Named) (sites l : ℕ) (v u : Valuation) : Type 0 where
   pub one : After
   pub other : After
@@ -33,25 +35,27 @@ pub record CyclesAgree (d : Named) (sites l : ℕ) (v u : Valuation) : Type 0 wh
   pub states : StatesAgree d.program l one.store other.store
   pub refusals : RefusalsAgree (world d).order l one.refused other.refused
 
--- what a cycle's numbers have of an entity: the value of a register, the tag of a register, a dynamic memory or a state, ..
+-- A cycle's numbers have the value of a register under its value's name.
 abbrev pub shown_value : Named → Valuation → ℕ → ℕ
 shown_value d v x = v.value (value_name (name d x))
 
+-- They have the tag of a register, a dynamic memory or a state under its tag's name.
 abbrev pub shown_tag : Named → Valuation → ℕ → ℕ
 shown_tag d v x = v.value (tag_name (name d x))
 
--- .. the value and the tag of a memory's cell
+-- They have the value of a memory's cell at its index.
 abbrev pub shown_cell : Named → Valuation → (m i : ℕ) → ℕ
 shown_cell d v m i = v.cell (value_name (name d m)) i
 
+-- They have the tag of a memory's cell at its index.
 abbrev pub shown_cell_tag : Named → Valuation → (m i : ℕ) → ℕ
 shown_cell_tag d v m i = v.cell (tag_name (name d m)) i
 
--- .. and the place of a state's current child
+-- They have the place of a state's current child in its group.
 abbrev pub shown_child : Named → Valuation → ℕ → ℕ
 shown_child d v p = v.value (seat_name (name d p))
 
--- the active path from the root on, as the places of current children and the tags of states show it
+-- They show the active path from the root on, by the places of current children and the tags of states.
 abbrev pub shown_path : Named → Valuation → List ActiveState
 shown_path d v = path_from (shown_child d v) (shown_tag d v) d.program.states (v.value root_seat)
 
@@ -60,12 +64,12 @@ pub record AreChildren (d : Named) (v : Valuation) : Type 0 where
   pub of_root : 0 < children (world d) (root (world d)) → v.value root_seat < children (world d) (root (world d))
   pub of_state : (p : ℕ) → p < root (world d) → 0 < children (world d) p → shown_child d v p < children (world d) p
 
--- site k is refused, and the code of its level, one at or below l, is n
+-- Site `k` is refused, and the code of its level, one at or below `l`, is `n`.
 abbrev pub IsToldAt : Named → (l : ℕ) → Valuation → (k n : ℕ) → Type 0
 IsToldAt d l v k n = (v.value (refused_name k) ≡ 1) × (v.value (refused_level_name k) ≡ n) × IsLowCode (world d).order d.code l n
 
--- What a reader of two cycles' numbers sees at l: registers, cells and active paths look alike, the tags of enforced entities whose
--- authority is at or below l are equal, and the same sites are refused at levels at or below l.
+-- What a reader of two cycles' numbers sees at l: registers, cells and active paths look alike, the tags of enforced
+-- entities whose authority is at or below l are equal, and the same sites are refused at levels at or below l.
 pub record CyclesLookAlike (d : Named) (sites l : ℕ) (v u : Valuation) : Type 0 where
   pub registers : (x : ℕ) → is_register (world d) x ≡ true
       → LookAlike (world d).order d.code l (shown_value d v x ≡ shown_value d u x) (shown_tag d v x) (shown_tag d u x)
@@ -85,18 +89,18 @@ pub record CyclesLookAlike (d : Named) (sites l : ℕ) (v u : Valuation) : Type 
   pub paths : PathsRelated (LookAlike (world d).order d.code l) (shown_path d v) (shown_path d u)
   pub refusals : (k n : ℕ) → 1 ≤ k → k ≤ sites → (IsToldAt d l v k n) ↔ (IsToldAt d l u k n)
 
--- For every level l, and every two streams that fit the design and agree at l, their levels given as codes: what is seen
--- of the netlist's runs is so related at l, cycle n with cycle n.
+-- For every level l, and every two streams that fit the design and agree at l, their levels given as codes: what is
+-- seen of the netlist's runs is so related at l, cycle n with cycle n.
 abbrev pub OnAgreeingStreams : Levels → DesignTree → Net → (Pair : (l : ℕ) → Valuation → Valuation → Type 0) → Type 0
 OnAgreeingStreams ls d n Pair =
     (l : ℕ) (a b : List (List Tagged)) → StreamFits (world (named_of ls d)) a → StreamFits (world (named_of ls d)) b → StreamsAgree (order_of ls) l a b
     → (vs us : List Valuation) → IsRun n (coded_stream (named_of ls d).code a) vs → IsRun n (coded_stream (named_of ls d).code b) us
     → AllZip (Pair l) (map (observed n) vs) (map (observed n) us)
 
--- the runs agree
+-- The runs agree: they stand for states and refusals that do, whatever numbers stand for them.
 abbrev pub RunsAgree : Levels → DesignTree → Net → Type 0
 RunsAgree ls d n = OnAgreeingStreams ls d n (CyclesAgree (named_of ls d) (site_count_of d))
 
--- and the numbers show it
+-- The runs look alike: their numbers show it, so that a reader who has only these and the tags can tell.
 abbrev pub RunsLookAlike : Levels → DesignTree → Net → Type 0
 RunsLookAlike ls d n = OnAgreeingStreams ls d n (CyclesLookAlike (named_of ls d) (site_count_of d))

@@ -1,7 +1,7 @@
 -- What a desk holds, as far as it tells, and what each call makes of it.
 use Rattle.std.specs.Prelude.{ℕ, ◌+◌, cond, eqb, ltb, List, [], ◌++◌, drop, bytes_eq, codes, Option, Some, None, unwrap_or, option_map, slice_get}
 
--- what a channel is open for
+-- A channel is open for reading, for writing or as a stream, or it is closed.
 pub data Use : Type 0 where
   -- for nothing: it was never opened, or it was finished
   closed : Use
@@ -12,7 +12,7 @@ pub data Use : Type 0 where
   -- for writing a standard stream: channels 1 and 2
   stream : Use
 
--- names and contents are bytes, and a channel is its number
+-- Names and contents are bytes, and a channel is its number.
 pub record Told : Type 0 where
   -- the bytes of the file of a name, if there is one
   pub files : List ℕ → Option (List ℕ)

@@ -5,7 +5,7 @@ use Rattle.std.specs.Borrow.{Bor}
 use Rattle.sap_desk.specs.Desk.{Told, Use, closed, reads, writes, stream, IsOpen, at_name, at_number, bytes_of, blamed, added, name_if_reading, read_on, rest_of}
 use Rattle.sap_desk.specs.Cause.{counted}
 
--- what holds of the contents before and after, where the desk tells
+-- Where the desk tells its contents, this holds of those before and those after.
 abbrev pub Between : Option Told → Option Told → (Told → Told → Type 0) → Type 0
 Between before after R = IfSome before (λ t. IsSomeAnd after (λ n. R t n))
 

@@ -3,7 +3,7 @@ use Rattle.sap_lemmas.proofs.Common.{◌≡◌, ◌≢◌, ℕ, List, [], length
 use Rattle.sap_desk.specs.Desk.{Told, Use}
 use Rattle.sap_desk.specs.Cause.{counted}
 use Rattle.sap_desk.specs.Whole.{Between, FailedWriting, FillsFile}
-use Rattle.sap_files.specs.Prelude.{Ending, Refusal, done, refused, failed, no_memory, IsFree, Kind, Has, IsRefused, Asks, file, by, gives, writes, stops, Files, IsCut, Leaves, Output, FullFile, Stands, Counted, Ends, EndsReading, FaultRose, Left, Moment, NotRead, OpensUnread, Quiet, Reads, Refuses, Same, Stops}
+use Rattle.sap_files.specs.Prelude.{Ending, Refusal, done, refused, failed, no_memory, IsFree, Kind, Has, IsRefused, Asks, file, with_the, gives, writes, stops, Files, IsCut, Leaves, Output, FullFile, Stands, Counted, Ends, EndsReading, FaultRose, Left, Moment, NotRead, OpensUnread, Quiet, Reads, Refuses, Same, Stops}
 
 pub between_map : (P Q : Told → Told → Type 0) (old new : Option Told) → ((t n : Told) → P t n → Q t n) → Between old new P → Between old new Q
 between_map P Q None new h b = tt
@@ -101,29 +101,29 @@ past {name = name} {bytes = bytes} {k = k} {rest = rest} {e = e} {a = a} {b = b}
 -- it goes on with what holds
 
 module _ (V : Type 0) (Holds : V → Type 0) (rest : V → Asks) (v : V) (t : Told) (holds : Holds v) where
-  cut_chosen : (gained : List ℕ) → IsCut (rest v) t gained → IsCut (by V Holds rest) t gained
+  cut_chosen : (gained : List ℕ) → IsCut (rest v) t gained → IsCut (with_the V Holds rest) t gained
   cut_chosen gained (inl none) = inl none
   cut_chosen gained (inr (text, (e, shows), prefix)) = inr (text, (e, (v, holds, shows)), prefix)
 
-  stands_chosen : (e : Ending) (gained : List ℕ) (before after : ℕ → Use) → Stands (rest v) t e gained before after → Stands (by V Holds rest) t e gained before after
+  stands_chosen : (e : Ending) (gained : List ℕ) (before after : ℕ → Use) → Stands (rest v) t e gained before after → Stands (with_the V Holds rest) t e gained before after
   stands_chosen done gained before after h = h
   stands_chosen (refused why) gained before after h = h
   stands_chosen (failed blamed) gained before after h = (v, holds, h)
   stands_chosen no_memory gained before after h = h
 
-  leaves_chosen : (e : Ending) (files : Files) → Leaves (rest v) t files e → Leaves (by V Holds rest) t files e
+  leaves_chosen : (e : Ending) (files : Files) → Leaves (rest v) t files e → Leaves (with_the V Holds rest) t files e
   leaves_chosen done files h = (v, holds, h)
   leaves_chosen (refused why) files h = h
   leaves_chosen (failed blamed) files h = elim h [ inl same ↦ inl same | inr part ↦ inr (v, holds, part) ]
   leaves_chosen no_memory files h = h
 
-  shows_chosen : (e : Ending) (gained : List ℕ) → Output (rest v) t gained e → Output (by V Holds rest) t gained e
+  shows_chosen : (e : Ending) (gained : List ℕ) → Output (rest v) t gained e → Output (with_the V Holds rest) t gained e
   shows_chosen done gained h = (v, holds, h)
   shows_chosen (refused why) gained h = (v, holds, h)
   shows_chosen (failed blamed) gained h = cut_chosen gained h
   shows_chosen no_memory gained h = h
 
-  left_chosen : (e : Ending) (F : Type 0) (n : Told) → Left (rest v) e F t n → Left (by V Holds rest) e F t n
+  left_chosen : (e : Ending) (F : Type 0) (n : Told) → Left (rest v) e F t n → Left (with_the V Holds rest) e F t n
   left_chosen e F n l = record {
     leaves = leaves_chosen e n.files l.leaves;
     gained = l.gained;
@@ -136,11 +136,11 @@ module _ (V : Type 0) (Holds : V → Type 0) (rest : V → Asks) (v : V) (t : To
     outside = λ changed. (v, holds, l.outside changed);
   }
 
-pub chosen : {V : Type 0} {Holds : V → Type 0} {rest : V → Asks} {e : Ending} {a b : Moment} (v : V) → Holds v → Ends (rest v) e a b → Ends (by V Holds rest) e a b
+pub chosen : {V : Type 0} {Holds : V → Type 0} {rest : V → Asks} {e : Ending} {a b : Moment} (v : V) → Holds v → Ends (rest v) e a b → Ends (with_the V Holds rest) e a b
 chosen {V = V} {Holds = Holds} {rest = rest} {e = e} {a = a} {b = b} v holds ended = record {
   told =
       let F : Type 0 = FaultRose a b in
-      between_map (Left (rest v) e F) (Left (by V Holds rest) e F) a.told b.told (λ t n l. left_chosen V Holds rest v t holds e F n l) ended.told;
+      between_map (Left (rest v) e F) (Left (with_the V Holds rest) e F) a.told b.told (λ t n l. left_chosen V Holds rest v t holds e F n l) ended.told;
   faults = ended.faults;
   lost = ended.lost;
   sure = ended.sure;

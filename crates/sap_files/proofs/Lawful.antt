@@ -1,7 +1,7 @@
 -- A command has at most one cause and at most one text, once for all of them.
 use Rattle.sap_lemmas.proofs.Common.{◌≡◌, ℕ, List, sym, ◌∙◌, ap, subst, inl, inr, some_unique}
 use Rattle.sap_desk.specs.Desk.{Told}
-use Rattle.sap_files.specs.Prelude.{Ending, Refusal, refused, Kind, Has, IsRefused, IsLawful, Asks, file, by, gives, prints, writes, stops, AreLawful, Cause, EndsAtFile, Shows, end_of}
+use Rattle.sap_files.specs.Prelude.{Ending, Refusal, refused, Kind, Has, IsRefused, IsLawful, Asks, file, with_the, gives, prints, writes, stops, AreLawful, Cause, EndsAtFile, Shows, end_of}
 
 module _ (k : Kind) (law : IsLawful k) (t : Told) (name : List ℕ) where
   pub one_value : (v w : k.Value) → Has t name k.Stands v → Has t name k.Stands w → v ≡ w
@@ -29,7 +29,7 @@ one_cause (file name k rest) law t e f (inr (v, has, one)) (inl there) = absurd 
 one_cause (file name k rest) law t e f (inr (v, has, one)) (inr (w, had, other)) =
     let P : k.Value → Type 0 = λ x. Cause (rest x) t f in
     one_cause (rest v) (law.1 has.bytes v has.stands) t e f one (subst P (one_value k law.0 t name w v had has) other)
-one_cause (by V Holds rest) law t e f (v, holds, one) (w, held, other) =
+one_cause (with_the V Holds rest) law t e f (v, holds, one) (w, held, other) =
     let P : V → Type 0 = λ x. Cause (rest x) t f in
     one_cause (rest v) (law.1 v holds) t e f one (subst P (law.0 w v held holds) other)
 one_cause (gives text) law t e f one other = one ∙ sym other
@@ -45,7 +45,7 @@ one_text (file name k rest) law t e f x y (inr (v, has, one)) (inl (there, nothi
 one_text (file name k rest) law t e f x y (inr (v, has, one)) (inr (w, had, other)) =
     let P : k.Value → Type 0 = λ z. Shows (rest z) t f y in
     one_text (rest v) (law.1 has.bytes v has.stands) t e f x y one (subst P (one_value k law.0 t name w v had has) other)
-one_text (by V Holds rest) law t e f x y (v, holds, one) (w, held, other) =
+one_text (with_the V Holds rest) law t e f x y (v, holds, one) (w, held, other) =
     let P : V → Type 0 = λ z. Shows (rest z) t f y in
     one_text (rest v) (law.1 v holds) t e f x y one (subst P (law.0 w v held holds) other)
 one_text (gives text) law t e f x y (is, one) (was, other) = law x y one other

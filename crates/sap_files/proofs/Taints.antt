@@ -7,7 +7,7 @@ use Rattle.sap_taint.specs.TagNames.{IsClash}
 use Rattle.sap_taint_pass.specs.FaultTexts.{IsTaintFault}
 use Rattle.sap_taint_pass.specs.declared.fault.TaintFault.{TaintFault}
 use Rattle.sap_taint_pass.specs.declared.fault.TaintFault.TheVariants.{Clash, Memory}
-use Rattle.sap_files.specs.Prelude.{Ending, refused, no_memory, taint_refused, FirstClash, HasTaintOf, IsTaintedText, tagged_or_refused, by, Ends, Moment, ending, taint_failure}
+use Rattle.sap_files.specs.Prelude.{Ending, refused, no_memory, taint_refused, FirstClash, HasTaintOf, IsTaintedText, tagged_or_refused, with_the, Ends, Moment, ending, taint_failure}
 use Rattle.sap_files.specs.declared.failure.Failure.{Failure}
 use Rattle.sap_files.proofs.Ended.{chosen, quiet_self, starved, stopped_by}
 
@@ -23,10 +23,11 @@ pub untagged : (n : Net) (fault : TaintFault) (failure : Failure) → failure �
 untagged n fault failure same is = subst (λ (f : Failure). Untagged n (ending f)) (sym same) (untagged_by n fault is)
 
 -- so the command ends there
-pub untagged_ended : (ls : Levels) (n : Net) (out : List ℕ) (e : Ending) (m : Moment) → Untagged n e → Ends (by (Option (List ℕ)) (FirstClash n) (tagged_or_refused ls n out)) e m m
+pub untagged_ended : (ls : Levels) (n : Net) (out : List ℕ) (e : Ending) (m : Moment) → Untagged n e
+    → Ends (with_the (Option (List ℕ)) (FirstClash n) (tagged_or_refused ls n out)) e m m
 untagged_ended ls n out e m (inl is) =
-    subst (λ (f : Ending). Ends (by (Option (List ℕ)) (FirstClash n) (tagged_or_refused ls n out)) f m m) (sym is)
-    (starved (by (Option (List ℕ)) (FirstClash n) (tagged_or_refused ls n out)) (quiet_self m))
+    subst (λ (f : Ending). Ends (with_the (Option (List ℕ)) (FirstClash n) (tagged_or_refused ls n out)) f m m) (sym is)
+    (starved (with_the (Option (List ℕ)) (FirstClash n) (tagged_or_refused ls n out)) (quiet_self m))
 untagged_ended ls n out e m (inr (x, clash, is)) = chosen (Some x) clash (stopped_by (taint_refused (Clash x)) e is (quiet_self m))
 
 -- two lattices that are the same give the same tags

@@ -7,7 +7,7 @@ use Rattle.sap_lines.specs.Stepping.Pace.{Prints}
 use Rattle.sap_lines.specs.Stepping.Printed.{StaysOpen}
 use Rattle.sap_lines.specs.declared.stepping.stopped.FailedCall.{FailedCall}
 use Rattle.sap_files.specs.Contents.{Has}
-use Rattle.sap_files.specs.Asks.{Asks, IsPrefix, file, by, gives, prints, writes, stops}
+use Rattle.sap_files.specs.Asks.{Asks, IsPrefix, file, with_the, gives, prints, writes, stops}
 use Rattle.sap_files.specs.Ending.{Ending, done, refused, failed, no_memory}
 
 -- a failed call blames its file, or the output; else whom the desk blamed before, it still blames
@@ -29,7 +29,7 @@ abbrev pub StandsFailed : Asks → Told → (blamed gained : List ℕ) → (befo
 StandsFailed (file name k rest) t blamed gained before after =
     ((blamed ≡ name) × (gained ≡ []) × OpenWithin k.most name t before after)
     ⊎ ((v : k.Value) × Has t name k.Stands v × StandsFailed (rest v) t blamed gained before after)
-StandsFailed (by V Holds rest) t blamed gained before after = (v : V) × Holds v × StandsFailed (rest v) t blamed gained before after
+StandsFailed (with_the V Holds rest) t blamed gained before after = (v : V) × Holds v × StandsFailed (rest v) t blamed gained before after
 StandsFailed (gives text) t blamed gained before after = (blamed ≡ codes "output") × (after ≡ before)
 StandsFailed (prints name text fault) t blamed gained before after =
     ((blamed ≡ name) × (gained ≡ []) × (after ≡ before))

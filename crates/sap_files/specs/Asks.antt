@@ -10,7 +10,7 @@ pub data Asks : Type 1 where
   -- reads the file of this name as one of this kind, and goes on with its value
   file : (name : List ℕ) (k : Kind) → (k.Value → Asks) → Asks
   -- goes on with that of which this holds
-  by : (V : Type 0) (Holds : V → Type 0) → (V → Asks) → Asks
+  with_the : (V : Type 0) (Holds : V → Type 0) → (V → Asks) → Asks
   -- writes the text of which this holds on channel 1, and is done
   gives : (text : List ℕ → Type 0) → Asks
   -- reads the stimulus file of this name line by line, and writes on channel 1, line by line, the text of which this holds by its bytes; it ends by the
@@ -33,7 +33,7 @@ EndsAtFile t name k e = (why : Refusal) × (e ≡ refused why) × IsRefused t na
 -- Why a command ends so: of its files, in order, this is the first that is refused; or all stand for values, and it comes to its end.
 abbrev pub Cause : Asks → Told → Ending → Type 0
 Cause (file name k rest) t e = EndsAtFile t name k e ⊎ ((v : k.Value) × Has t name k.Stands v × Cause (rest v) t e)
-Cause (by V Holds rest) t e = (v : V) × Holds v × Cause (rest v) t e
+Cause (with_the V Holds rest) t e = (v : V) × Holds v × Cause (rest v) t e
 Cause (gives text) t e = e ≡ done
 Cause (prints name text fault) t e = (bytes : List ℕ) × (t.files name ≡ Some bytes) × (e ≡ end_of (fault bytes))
 Cause (writes name text) t e = e ≡ done
@@ -44,7 +44,7 @@ abbrev pub MayEnd : Asks → Ending → Type 0
 MayEnd (file name k rest) e =
     ((bytes : List ℕ) × (why : Refusal) × (e ≡ refused why) × k.Refused bytes why)
     ⊎ ((bytes : List ℕ) × (v : k.Value) × k.Stands bytes v × MayEnd (rest v) e)
-MayEnd (by V Holds rest) e = (v : V) × Holds v × MayEnd (rest v) e
+MayEnd (with_the V Holds rest) e = (v : V) × Holds v × MayEnd (rest v) e
 MayEnd (gives text) e = e ≡ done
 MayEnd (prints name text fault) e = (bytes : List ℕ) × (e ≡ end_of (fault bytes))
 MayEnd (writes name text) e = e ≡ done
@@ -54,7 +54,7 @@ MayEnd (stops why) e = e ≡ refused why
 abbrev pub Shows : Asks → Told → Ending → (gained : List ℕ) → Type 0
 Shows (file name k rest) t e gained =
     (EndsAtFile t name k e × (gained ≡ [])) ⊎ ((v : k.Value) × Has t name k.Stands v × Shows (rest v) t e gained)
-Shows (by V Holds rest) t e gained = (v : V) × Holds v × Shows (rest v) t e gained
+Shows (with_the V Holds rest) t e gained = (v : V) × Holds v × Shows (rest v) t e gained
 Shows (gives text) t e gained = (e ≡ done) × text gained
 Shows (prints name text fault) t e gained = (bytes : List ℕ) × (t.files name ≡ Some bytes) × (e ≡ end_of (fault bytes)) × text bytes gained
 Shows (writes name text) t e gained = (e ≡ done) × (gained ≡ [])
@@ -86,7 +86,7 @@ Files = List ℕ → Option (List ℕ)
 -- the files where it is done: the one that it writes has such a text, and all others are as before
 abbrev pub Written : Asks → Told → Files → Type 0
 Written (file name k rest) t files = (v : k.Value) × Has t name k.Stands v × Written (rest v) t files
-Written (by V Holds rest) t files = (v : V) × Holds v × Written (rest v) t files
+Written (with_the V Holds rest) t files = (v : V) × Holds v × Written (rest v) t files
 Written (gives text) t files = files ≡ t.files
 Written (prints name text fault) t files = files ≡ t.files
 Written (writes name text) t files = (whole : List ℕ) × text whole × (files ≡ at_name name (Some whole) t.files)
@@ -95,7 +95,7 @@ Written (stops why) t files = files ≡ t.files
 -- the files where it was cut off in writing, which blames this: the one that it writes, and that is blamed, has a prefix of such a text
 abbrev pub WrittenInPart : Asks → Told → (blamed : List ℕ) → Files → Type 0
 WrittenInPart (file name k rest) t blamed files = (v : k.Value) × Has t name k.Stands v × WrittenInPart (rest v) t blamed files
-WrittenInPart (by V Holds rest) t blamed files = (v : V) × Holds v × WrittenInPart (rest v) t blamed files
+WrittenInPart (with_the V Holds rest) t blamed files = (v : V) × Holds v × WrittenInPart (rest v) t blamed files
 WrittenInPart (gives text) t blamed files = ⊥
 WrittenInPart (prints name text fault) t blamed files = ⊥
 WrittenInPart (writes name text) t blamed files =
@@ -112,7 +112,7 @@ Leaves a t files no_memory = files ≡ t.files
 -- each kind of file is lawful, of what it goes on by there is at most one, and at most one text is asked for on channel 1
 abbrev pub AreLawful : Asks → Type 0
 AreLawful (file name k rest) = IsLawful k × ((bytes : List ℕ) (v : k.Value) → k.Stands bytes v → AreLawful (rest v))
-AreLawful (by V Holds rest) = ((v w : V) → Holds v → Holds w → v ≡ w) × ((v : V) → Holds v → AreLawful (rest v))
+AreLawful (with_the V Holds rest) = ((v w : V) → Holds v → Holds w → v ≡ w) × ((v : V) → Holds v → AreLawful (rest v))
 AreLawful (gives text) = (one other : List ℕ) → text one → text other → one ≡ other
 AreLawful (prints name text fault) = (bytes one other : List ℕ) → text bytes one → text bytes other → one ≡ other
 AreLawful (writes name text) = Unit {0}

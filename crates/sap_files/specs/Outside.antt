@@ -4,7 +4,7 @@ use Rattle.sap_desk.specs.Desk.{Told, bytes_of, stream}
 use Rattle.sap_desk.specs.Whole.{MissingOrLong}
 use Rattle.sap_lines.specs.Stepping.Printed.{MissingOrTooLong}
 use Rattle.sap_files.specs.Contents.{Has}
-use Rattle.sap_files.specs.Asks.{Asks, file, by, gives, prints, writes, stops}
+use Rattle.sap_files.specs.Asks.{Asks, file, with_the, gives, prints, writes, stops}
 
 -- a file holds as much as there is room for
 abbrev pub FullFile : (name : List ℕ) → Told → Told → Type 0
@@ -23,7 +23,7 @@ IsUnreadable (Some most) name t = t.files name ≡ None
 -- refused line; or what the command writes fills the room.
 abbrev pub OutsideOf : Asks → Told → Told → Type 0
 OutsideOf (file name k rest) t n = IsUnreadable k.most name t ⊎ ((v : k.Value) × Has t name k.Stands v × OutsideOf (rest v) t n)
-OutsideOf (by V Holds rest) t n = (v : V) × Holds v × OutsideOf (rest v) t n
+OutsideOf (with_the V Holds rest) t n = (v : V) × Holds v × OutsideOf (rest v) t n
 OutsideOf (gives text) t n = FullOutput t n
 OutsideOf (prints name text fault) t n = MissingOrTooLong fault name t ⊎ FullOutput t n
 OutsideOf (writes name text) t n = FullFile name t n

@@ -1,6 +1,6 @@
 -- The definitions of commands over files that proofs name, each from the file in which it stands. Declares nothing.
 pub use Rattle.sap_files.specs.After.{Blames, Stands}
-pub use Rattle.sap_files.specs.Asks.{AreLawful, Asks, by, Cause, end_of, EndsAtFile, file, Files, gives, IsCut, IsPrefix, Leaves, MayEnd, Output, prints}
+pub use Rattle.sap_files.specs.Asks.{AreLawful, Asks, with_the, Cause, end_of, EndsAtFile, file, Files, gives, IsCut, IsPrefix, Leaves, MayEnd, Output, prints}
 pub use Rattle.sap_files.specs.Asks.{Shows, stops, writes, Written}
 pub use Rattle.sap_files.specs.Compared.{agreement_line, difference, Finds, input_names, is_input, IsVerdict}
 pub use Rattle.sap_files.specs.Contents.{Has, IsLatticeFile, IsWellFormedText, table_by}

@@ -12,7 +12,7 @@ use Rattle.sap_machine.specs.Text.{stimulus_text, users_text}
 use Rattle.sap_files.specs.Kinds.{assembly_file, lattice_file, design_file, design_text_file, module_file, module_stream_file, wave_file}
 use Rattle.sap_files.specs.StimulusTexts.{AreModuleRows}
 use Rattle.sap_files.specs.Tainting.{FirstClash, tagged_or_refused}
-use Rattle.sap_files.specs.Asks.{Asks, file, by, gives, prints, writes}
+use Rattle.sap_files.specs.Asks.{Asks, file, with_the, gives, prints, writes}
 
 abbrev pub asks_canonical : (design : List ℕ) → Asks
 asks_canonical design = file design design_text_file (λ d. gives (λ text. text ≡ canonical_text d))
@@ -24,7 +24,7 @@ asks_simulated lattice verilog stimulus =
 
 abbrev pub asks_taint : (lattice verilog out : List ℕ) → Asks
 asks_taint lattice verilog out =
-    file lattice lattice_file (λ ls. file verilog module_file (λ net. by (Option (List ℕ)) (FirstClash net) (tagged_or_refused ls net out)))
+    file lattice lattice_file (λ ls. file verilog module_file (λ net. with_the (Option (List ℕ)) (FirstClash net) (tagged_or_refused ls net out)))
 
 abbrev pub asks_report : (lattice design : List ℕ) → Asks
 asks_report lattice design =

@@ -10,7 +10,7 @@ use Rattle.sap_net.specs.Runs.{initial, AllFit, IsRun, observed}
 use Rattle.sap_interface.specs.StandsFor.{Named, world, StandsFor}
 use Rattle.sap_interface.specs.Interface.{HasInterface}
 
--- what a module's ports are given in a cycle: each input's number, and the code of its level
+-- A module's ports are given each input's number, and the code of its level, in a cycle.
 abbrev pub coded : (code : ℕ → ℕ) → List Tagged → List ℕ
 coded code [] = []
 coded code (t ∷ ts) = t.number ∷ code t.level ∷ coded code ts
@@ -19,19 +19,19 @@ coded code (t ∷ ts) = t.number ∷ code t.level ∷ coded code ts
 abbrev pub coded_stream : (code : ℕ → ℕ) → List (List Tagged) → List (List ℕ)
 coded_stream code stream = map (coded code) stream
 
--- each cycle of a module stands for the same cycle of a labelled run
+-- Each cycle of a module stands for the same cycle of a labelled run.
 abbrev pub CyclesStand : Named → (sites : ℕ) → List Valuation → List After → Type 0
 CyclesStand d sites = AllZip (λ (v : Valuation) (a : After). StandsFor d sites v a.store a.refused)
 
--- It has the interface; and on every stream that fits the design, its levels given as codes, what is seen of its run in each cycle stands for the
--- same cycle of the labelled run. `tag` is the width of tags.
+-- It has the interface; and on every stream that fits the design, its levels given as codes, what is seen of its run
+-- in each cycle stands for the same cycle of the labelled run. `tag` is the width of tags.
 pub record NetStandsFor (d : Named) (tag sites : ℕ) (n : Net) : Type 0 where
   pub interface : HasInterface d tag sites n
   pub takes : (stream : List (List Tagged)) → StreamFits (world d) stream → AllFit n.inputs (coded_stream d.code stream)
   pub stands : (stream : List (List Tagged)) → StreamFits (world d) stream
       → (vs : List Valuation) → IsRun n (coded_stream d.code stream) vs → CyclesStand d sites (map (observed n) vs) (labelled_run d.program stream)
 
--- The numbers before the first cycle stand for the design's first state, with nothing refused: each register, each memory's cell, each state's tag
--- and each current child has the number, or the code of the level, that it has there.
+-- The numbers before the first cycle stand for the design's first state, with nothing refused: each register, each
+-- memory's cell, each state's tag and each current child has the number, or the code of the level, that it has there.
 abbrev pub NetStartsAs : Named → (sites : ℕ) → Net → Type 0
 NetStartsAs d sites n = StandsFor d sites (initial n) (first (world d)) []

@@ -14,17 +14,17 @@ use Rattle.sap_interface.specs.StandsFor.{Named, name, world, depth}
 use Rattle.sap_net.specs.Names.{IsHelpingName}
 use Rattle.sap_interface.specs.InterfaceNames.{IsInterfaceName}
 
--- a port's name with what it is
+-- A port's name is shown with what it is.
 abbrev pub Shown : Type 0
 Shown = Name × PortKind
 
--- what a test of entity numbers picks, each as two ports, in order of declaration; x is the number of the first
+-- Each entity that a test of numbers picks has two ports, in order of declaration; `x` is the number of the first.
 abbrev pub pairs_of : (ℕ → Bool) → PortKind → Named → (x : ℕ) → List Entity → List Shown
 pairs_of picks k d x [] = []
 pairs_of picks k d x (e ∷ es) =
     (if picks x then (value_name (name d x), k) ∷ (tag_name (name d x), k) ∷ [] else []) ++ pairs_of picks k d (x + 1) es
 
--- two wires for each check site, from site k on
+-- Each check site has two wires, from site `k` on.
 abbrev pub site_ports : (k sites : ℕ) → List Shown
 site_ports k zero = []
 site_ports k (suc n) = (refused_name k, kind.Wire) ∷ (refused_level_name k, kind.Wire) ∷ site_ports (k + 1) n
@@ -36,7 +36,8 @@ ports_of d sites =
     ++ pairs_of (is_register (world d)) kind.Register d 0 (world d).entities
     ++ site_ports 1 sites
 
--- What a module declares: its ports in order, its inputs, wires and registers with their widths, its memories with width and depth.
+-- What a module declares: its ports in order, its inputs, wires and registers with their widths, its memories with
+-- width and depth.
 pub record Declared : Type 0 where
   pub ports : List Shown
   pub inputs : Scope
@@ -55,7 +56,7 @@ declared_by n =
       memories = shapes n;
     }
 
--- the least width of 1 or more that can hold the number of each of some children
+-- The width is the least of 1 or more that can hold the number of each of some children.
 pub record IsSeatWidth (count u : ℕ) : Type 0 where
   pub positive : 1 ≤ u
   pub holds : count ≤ 2 ^ u
@@ -65,7 +66,8 @@ pub record IsSeatWidth (count u : ℕ) : Type 0 where
 abbrev pub HasSeat : (registers : Scope) → (count : ℕ) → Name → Type 0
 HasSeat registers count seat = (u : ℕ) × IsSeatWidth count u × (find registers seat ≡ Some u)
 
--- What a module declares of one design, but for its inputs: under `named x` what the interface has under x. `tag` is the width of tags.
+-- What a module declares of one design, but for its inputs: under `named x` what the interface has under x. `tag` is
+-- the width of tags.
 pub record DeclaresPart (named : Name → Name) (d : Named) (tag sites : ℕ) (declared : Declared) : Type 0 where
   pub registers : (x : ℕ) → is_register (world d) x ≡ true
       → (find declared.registers (named (value_name (name d x))) ≡ Some (width (world d) x)) × (find declared.registers (named (tag_name (name d x))) ≡ Some tag)

@@ -4,7 +4,7 @@ use Rattle.sap_meaning.specs.Program.{World, root, children, is_input, is_regist
 use Rattle.sap_net.specs.PortNames.{value_name, tag_name, refused_name, refused_level_name, seat_name, root_seat}
 use Rattle.sap_interface.specs.StandsFor.{Named, name, world}
 
--- an input, a register or a memory
+-- The entity is an input, a register or a memory.
 abbrev pub holds_numbers : World → ℕ → Bool
 holds_numbers w x = is_input w x || (is_register w x || is_memory w x)
 

@@ -7,7 +7,7 @@ use Rattle.sap_meaning.specs.Sized as sized
 use Rattle.sap_meaning.specs.Store.{Store, own, start, start_whole, number, level, child, Refusal}
 use Rattle.sap_net.specs.PortNames.{value_name, tag_name, refused_name, refused_level_name, seat_name, root_seat}
 
--- a program with the names of its entities, by number, and the code of each level
+-- A named program has the names of its entities, by number, and the code of each level.
 pub record Named : Type 0 where
   pub program : Program
   pub names : List (List ℕ)
@@ -25,7 +25,7 @@ world d = d.program.world
 abbrev pub depth : Named → ℕ → ℕ
 depth d m = sized.depth (world d) m
 
--- site k is refused, at the level t
+-- Site `k` is refused, at the level `t`.
 abbrev pub IsRefusedAt : List Refusal → (k t : ℕ) → Type 0
 IsRefusedAt [] k t = ⊥
 IsRefusedAt (r ∷ rs) k t = ((r.site ≡ k) × (r.level ≡ t)) ⊎ IsRefusedAt rs k t
@@ -34,7 +34,8 @@ IsRefusedAt (r ∷ rs) k t = ((r.site ≡ k) × (r.level ≡ t)) ⊎ IsRefusedAt
 abbrev pub IsRefused : List Refusal → (k : ℕ) → Type 0
 IsRefused rs k = (t : ℕ) × IsRefusedAt rs k t
 
--- The numbers are those of a cycle: registers and memories after its edge, wires before it. `sites` is how many check sites the design has.
+-- The numbers are those of a cycle: registers and memories after its edge, wires before it. `sites` is how many check
+-- sites the design has.
 pub record StandsFor (d : Named) (sites : ℕ) (v : Valuation) (s : Store) (refused : List Refusal) : Type 0 where
   pub register_values : (x : ℕ) → is_register (world d) x ≡ true → v.value (value_name (name d x)) ≡ number (own x) s
   pub register_tags : (x : ℕ) → is_register (world d) x ≡ true → v.value (tag_name (name d x)) ≡ d.code (level (world d) (own x) s)

@@ -3,26 +3,26 @@ use Rattle.std.specs.Prelude.{◌≡◌, ℕ, suc, List, [], ◌∷◌, codes, O
 use Rattle.sap_lattice.specs.declared.pair.Pair.{Pair}
 use Rattle.toml.specs.Data.{Data, Items, Members, no_items, item, no_members, member, string, get_member, as_array, as_str}
 
--- the number of keys
+-- `key_count` is the number of keys.
 abbrev pub key_count : Members → ℕ
 key_count no_members = 0
 key_count (member key value others) = suc (key_count others)
 
--- one more in front, where there is one
+-- One item more stands in front, if there is one.
 abbrev pub then_cons : {A : Type 0} → Option A → Option (List A) → Option (List A)
 then_cons None others = None
 then_cons (Some a) others = option_map (λ as'. a ∷ as') others
 
--- what is found in each item, where it is found in all
+-- `each_of` is what is found in each item, if it is found in all.
 abbrev pub each_of : {A : Type 0} → (Data → Option A) → Items → Option (List A)
 each_of found no_items = Some []
 each_of found (item value others) = then_cons (found value) (each_of found others)
 
--- the strings of an array that has nothing else
+-- `texts_of` has the strings of an array that has nothing else.
 abbrev pub texts_of : Items → Option (List (List ℕ))
 texts_of = each_of as_str
 
--- two strings, the lower first
+-- A pair is two strings, the lower first.
 abbrev pub pair_in : Items → Option Pair
 pair_in (item (string lower) (item (string upper) no_items)) = Some (record { lower = lower; upper = upper })
 pair_in _ = None
@@ -31,15 +31,15 @@ pair_in _ = None
 abbrev pub pair_of : Data → Option Pair
 pair_of value = option_and_then pair_in (as_array value)
 
--- the pairs of an array that has nothing else
+-- `pairs_of` has the pairs of an array that has nothing else.
 abbrev pub pairs_of : Items → Option (List Pair)
 pairs_of = each_of pair_of
 
--- the array at a key
+-- `array_at` is the array at a key.
 abbrev pub array_at : List ℕ → Members → Option Items
 array_at key members = option_and_then as_array (get_member key members)
 
--- the document has exactly two keys: `levels`, an array of strings, and `below`, an array of arrays of two strings
+-- The document has exactly two keys: `levels`, an array of strings, and `below`, an array of arrays of two strings.
 pub record Lists (document : Members) (names : List (List ℕ)) (pairs : List Pair) : Type 0 where
   pub two_keys : key_count document ≡ 2
   pub levels : option_and_then texts_of (array_at (codes "levels") document) ≡ Some names

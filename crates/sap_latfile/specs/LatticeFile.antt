@@ -11,11 +11,11 @@ use Rattle.sap_latfile.specs.Document.{Lists}
 use Rattle.sap_latfile.specs.declared.fault.LatFileFault.{LatFileFault}
 use Rattle.sap_latfile.specs.declared.fault.LatFileFault.TheVariants.{NotToml, Shape, Rule, Memory}
 
--- the bytes are this document
+-- The bytes are this document.
 abbrev pub IsDocument : List ℕ → Members → Type 0
 IsDocument bytes document = IsUtf8 bytes × (parse_document bytes ≡ Some document)
 
--- the bytes are a document that lists these names and pairs
+-- The bytes are a document that lists these names and pairs.
 pub record IsFileOf (bytes : List ℕ) (names : List (List ℕ)) (pairs : List Pair) : Type 0 where
   pub document : Members
   pub is_document : IsDocument bytes document
@@ -38,6 +38,6 @@ FirstFault bytes Shape = HasOtherShape bytes
 FirstFault bytes (Rule fault) = (names : List (List ℕ)) × (pairs : List Pair) × IsFileOf bytes names pairs × FirstBroken names pairs fault
 FirstFault bytes Memory = ⊥
 
--- l is the lattice of the names and pairs of the file
+-- `l` is the lattice of the names and pairs of the file.
 abbrev pub IsLatticeOfFile : List ℕ → Levels → Type 0
 IsLatticeOfFile bytes l = (names : List (List ℕ)) × (pairs : List Pair) × IsFileOf bytes names pairs × IsLatticeOf names pairs l

@@ -5,7 +5,7 @@ use Rattle.sap_lattice.specs.Closure.{Below, IsLevel, IsJoin, IsLeast, IsGreates
 use Rattle.sap_lattice.specs.Levels.{Levels, order_of}
 use Rattle.sap_lattice.specs.Rules.{KeepsAll}
 
--- l is the lattice of these names and pairs
+-- `l` is the lattice of these names and pairs.
 pub record IsLatticeOf (names : List (List ℕ)) (pairs : List Pair) (l : Levels) : Type 0 where
   pub kept : KeepsAll names pairs
   pub same_names : l.names ≡ names

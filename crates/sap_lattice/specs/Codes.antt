@@ -4,38 +4,38 @@ use Rattle.std.specs.List.{list_any}
 use Rattle.sap_lattice.specs.Order.{Order}
 use Rattle.sap_lattice.specs.Levels.{numbers}
 
--- x is below y and another level
+-- `x` is below y and another level.
 abbrev pub is_strictly_below : Order → ℕ → ℕ → Bool
 is_strictly_below o x y = o.le x y && not (x == y)
 
--- y is strictly above x, with no level strictly between
+-- `y` is strictly above x, with no level strictly between.
 abbrev pub is_upper_cover : Order → ℕ → ℕ → Bool
 is_upper_cover o x y =
     is_strictly_below o x y
     && not (list_any (λ z. is_strictly_below o x z && is_strictly_below o z y) (numbers o.count))
 
--- not the top, and with exactly one upper cover
+-- A level is meet-irreducible if it isn't the top and has exactly one upper cover.
 abbrev pub is_meet_irreducible : Order → ℕ → Bool
 is_meet_irreducible o x = not (x == o.top) && (length (filter (is_upper_cover o x) (numbers o.count)) == 1)
 
--- in the file's order
+-- The meet-irreducible levels stand in the file's order.
 unfoldable pub meet_irreducibles : Order → List ℕ
 meet_irreducibles o = filter (is_meet_irreducible o) (numbers o.count)
 
--- the number of bits in a code
+-- `width_of` is the number of bits in a code.
 abbrev pub width_of : Order → ℕ
 width_of o = length (meet_irreducibles o)
 
--- the number whose bits, from the lowest, are set where the list has true
+-- `number_of` is the number whose bits, from the lowest, are set where the list has true.
 abbrev pub number_of : List Bool → ℕ
 number_of [] = 0
 number_of (b ∷ bs) = (if b then 1 else 0) + 2 * number_of bs
 
--- the code of x is the set of the meet-irreducibles that x is not at or below
+-- The code of x is the set of the meet-irreducibles that x is not at or below.
 abbrev pub is_in_code : Order → ℕ → ℕ → Bool
 is_in_code o x m = not (o.le x m)
 
--- its number: bit i is set where the i-th of them is in the set
+-- The code is a number: bit `i` is set where the `i`-th meet-irreducible level is in the set.
 unfoldable pub code_of : Order → ℕ → ℕ
 code_of o x = number_of (map (is_in_code o x) (meet_irreducibles o))
 

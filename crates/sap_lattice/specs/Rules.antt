@@ -10,40 +10,40 @@ use Rattle.sap_lattice.specs.Closure.{Below, IsLevel, IsJoin, IsLeast, name_at}
 abbrev pub BadCount : List (List ℕ) → Type 0
 BadCount names = (length names < 2) ⊎ (64 < length names)
 
--- what is no name for the level at place k
+-- A word is no name for the level at place `k` for one of these reasons.
 pub data BadName (names : List (List ℕ)) (k : ℕ) : Type 0 where
   no_word : is_word (name_at names k) ≡ false → BadName names k
   keyword : is_among (name_at names k) design_keywords ≡ true → BadName names k
   too_long : 40 < length (name_at names k) → BadName names k
   repeated : (j : ℕ) → j < k → name_at names j ≡ name_at names k → BadName names k
 
--- L4: level k has no name of the design language, or too long a one, or that of an earlier level
+-- L4: level `k` has no name of the design language, or too long a one, or that of an earlier level.
 abbrev pub BadLevel : List (List ℕ) → ℕ → Type 0
 BadLevel names k = IsLevel names k × BadName names k
 
--- L5: the pair at place k has a name that is no level
+-- L5: the pair at place `k` has a name that is no level.
 pub data BadPair (names : List (List ℕ)) (pairs : List Pair) (k : ℕ) : Type 0 where
   lower : (p : Pair) → slice_get pairs k ≡ Some p → ¬ Contains names p.lower → BadPair names pairs k
   upper : (p : Pair) → slice_get pairs k ≡ Some p → ¬ Contains names p.upper → BadPair names pairs k
 
--- L6: two levels, each at or below the other
+-- L6: two levels are each at or below the other.
 pub record IsCycle (names : List (List ℕ)) (pairs : List Pair) (x y : ℕ) : Type 0 where
   pub apart : x < y
   pub level : IsLevel names y
   pub there : Below names pairs x y
   pub back : Below names pairs y x
 
--- L7: two levels without a least upper bound
+-- L7: two levels have no least upper bound.
 pub record HasNoJoin (names : List (List ℕ)) (pairs : List Pair) (x y : ℕ) : Type 0 where
   pub apart : x < y
   pub level : IsLevel names y
   pub none : (j : ℕ) → ¬ IsJoin names pairs x y j
 
--- L8: there is no least level
+-- L8: there is no least level.
 abbrev pub HasNoLeast : List (List ℕ) → List Pair → Type 0
 HasNoLeast names pairs = (b : ℕ) → ¬ IsLeast names pairs b
 
--- none of the rules up to the one that is named is broken
+-- None of the rules up to the one that is named is broken.
 pub record KeepsCount (names : List (List ℕ)) : Type 0 where
   pub at_least_two : 2 ≤ length names
   pub not_too_many : length names ≤ 64

@@ -27,7 +27,7 @@ name_at bytes = let name = take (run c.Inner bytes) bytes in word_or_name (word_
 
 -- numbers
 
--- a byte that may not follow a number
+-- These bytes may not follow a number.
 abbrev pub clings : ℕ → Bool
 clings b = is_inner b || b == byte "'"
 
@@ -44,7 +44,7 @@ sized_lexeme (Some width) (Some n) true len = Bad
 sized_lexeme (Some width) None clinging len = Bad
 sized_lexeme None n clinging len = Bad
 
--- a width of `width` digits, `'`, a letter, and digits of a base
+-- A sized number is a width of `width` digits, `'`, a letter, and digits of a base.
 unfoldable pub sized_in : Class → (base : ℕ) → (width : ℕ) → List ℕ → Lexeme
 sized_in class base width bytes =
     let digits = run class (drop (width + 2) bytes) in

@@ -33,7 +33,7 @@ pub record StandsAt (text : List ℕ) (n : ℕ) (token : Token) (len : ℕ) : Ty
   pub from : token.from ≡ n
   pub to : token.to ≡ n + len
 
--- the first n bytes of a text are these tokens, with blanks between them
+-- The first `n` bytes of a text are these tokens, with blanks between them.
 abbrev pub Reached : List ℕ → ℕ → List Token → Type 0
 Reached text = walk.Reached (IsBlankAt text) (StandsAt text)
 
@@ -94,7 +94,7 @@ keyed (t ∷ ts) = if is_sapper t.kind then with_kind t (k.Word w.Sapper) ∷ be
 abbrev pub AreSpanned : List Token → Type 0
 AreSpanned tokens = AllByRecursion (λ t. t.from < t.to) tokens
 
--- the tokens of a text: what its bytes are, with these words
+-- The bytes of a text are these tokens, with the words of its version as keywords.
 pub record AreTokens (text : List ℕ) (tokens : List Token) : Type 0 where
   pub found : List Token
   pub reached : Reached text (length text) found

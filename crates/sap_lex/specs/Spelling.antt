@@ -8,7 +8,7 @@ use Rattle.sap_tree.specs.Words.{word_text, first_words, later_words}
 use Rattle.sap_tree.specs.declared.word.Word.TheVariants as w
 use Rattle.sap_tree.specs.declared.word.Word.{Word}
 
--- how signs are spelled
+-- Signs are spelled so.
 abbrev pub sign_text : Sign → List ℕ
 sign_text s.Becomes = codes ":="
 sign_text s.Equal = codes "=="
@@ -36,7 +36,7 @@ sign_text s.Bar = codes "|"
 sign_text s.Caret = codes "^"
 sign_text s.Tilde = codes "~"
 
--- the signs of two bytes, and those of one
+-- Some signs have two bytes, others one.
 abbrev pub pair_signs : List Sign
 pair_signs = s.Becomes ∷ s.Equal ∷ s.NotEqual ∷ s.LessOrEqual ∷ s.ShiftLeft ∷ s.ShiftRight ∷ []
 
@@ -49,11 +49,11 @@ single_signs = s.OpenParen ∷ s.CloseParen ∷ s.OpenBrace ∷ s.CloseBrace ∷
 abbrev pub signs : List Sign
 signs = pair_signs ++ single_signs
 
--- of some signs, the one that is spelled so
+-- `sign_among` is the one of some signs that is spelled so.
 abbrev pub sign_among : List Sign → List ℕ → Option Sign
 sign_among list text = find (λ sign. bytes_eq text (sign_text sign)) list
 
--- the sign that is spelled so
+-- `sign_of` is the sign that is spelled so.
 abbrev pub sign_of : List ℕ → Option Sign
 sign_of text = sign_among signs text
 
@@ -65,11 +65,11 @@ pair_sign first second = sign_among pair_signs (first ∷ second ∷ [])
 unfoldable pub single_sign : ℕ → Option Sign
 single_sign byte = sign_among single_signs (byte ∷ [])
 
--- of some words, the one that is spelled so
+-- `word_among` is the one of some words that is spelled so.
 abbrev pub word_among : List Word → List ℕ → Option Word
 word_among list text = find (λ word. bytes_eq text (word_text word)) list
 
--- the word that is spelled so
+-- `word_of` is the word that is spelled so.
 abbrev pub word_of : List ℕ → Option Word
 word_of text = word_among first_words text
 
@@ -97,6 +97,6 @@ command_word text = word_among command_words text
 unfoldable pub expression_word : List ℕ → Option Word
 expression_word text = word_among expression_words text
 
--- the word that is one from the second version on
+-- `later_word_of` is the word that is one from the second version on.
 abbrev pub later_word_of : List ℕ → Option Word
 later_word_of text = word_among later_words text

@@ -13,7 +13,7 @@ use Rattle.sap_linker.specs.Linking.{IsLinked}
 use Rattle.sap_linker.specs.Sizes.{IsSmallSystem}
 use Rattle.sap_files.specs.Ending.{wires_refused}
 use Rattle.sap_files.specs.Kinds.{lattice_file}
-use Rattle.sap_files.specs.Asks.{Asks, file, by, writes, stops}
+use Rattle.sap_files.specs.Asks.{Asks, file, with_the, writes, stops}
 use Rattle.sap_linking.specs.Kinds.{system_file, part_file}
 
 -- the text is one of the module of these designs, and of the wires that these texts stand for, and the module is small
@@ -31,7 +31,7 @@ linked_or_refused ls designs wires out None = writes out (IsLinkedText ls design
 linked_or_refused ls designs wires out (Some fault) = stops (wires_refused fault)
 
 abbrev pub asks_wired : Levels → List WireText → (out : List ℕ) → List NamedDesign → Asks
-asks_wired ls wires out designs = by (Option LinkFault) (FirstBroken (surroundings ls designs) wires) (linked_or_refused ls designs wires out)
+asks_wired ls wires out designs = with_the (Option LinkFault) (FirstBroken (surroundings ls designs) wires) (linked_or_refused ls designs wires out)
 
 -- reads the files of parts in order, and goes on with their designs under the names of the parts
 abbrev pub asks_parts : Levels → List Part → (List NamedDesign → Asks) → Asks

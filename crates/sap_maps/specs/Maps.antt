@@ -1,11 +1,11 @@
 -- Names, and maps from names to numbers.
 use Rattle.std.specs.Prelude.{ℕ, List, bytes_eq, if◌then◌else◌}
 
--- a name is its bytes
+-- `a` name is its bytes.
 abbrev pub Name : Type 0
 Name = List ℕ
 
--- a number for each name, and for each name of a memory one for each of its cells
+-- A valuation has a number for each name, and for each name of a memory one for each of its cells.
 pub record Valuation : Type 0 where
   pub value : Name → ℕ
   pub cell : Name → ℕ → ℕ

@@ -2,12 +2,12 @@
 use Rattle.std.specs.Prelude.{◌≡◌, ℕ, List, [], ◌∷◌, Option, Some, None, bytes_eq, if◌then◌else◌}
 use Rattle.sap_maps.specs.Maps.{Name, Valuation}
 
--- what was declared of a name
+-- `find` is what was declared of a name first.
 abbrev pub find : {X : Type 0} → List (Name × X) → Name → Option X
 find [] n = None
 find (e ∷ es) n = if bytes_eq e.0 n then Some e.1 else find es n
 
--- names with their widths
+-- A scope has names with their widths.
 abbrev pub Scope : Type 0
 Scope = List (Name × ℕ)
 

@@ -1,4 +1,5 @@
--- Expressions over names of any type: the widths of names and of memories' cells, the numbers behind names and the cells of memories are given from outside.
+-- Expressions over names of any type: the widths of names and of memories' cells, the numbers behind names and the
+-- cells of memories are given from outside.
 use Rattle.std.specs.Prelude.{◌≡◌, ◌<◌, ◌≤◌, ℕ, ◌+◌, ◌-◌, ◌^◌, ◌==◌, if◌then◌else◌}
 use Rattle.sap_bits.specs.Arithmetic.{value1, value2, width1, width2, slice_of, joined}
 use Rattle.sap_bits.specs.declared.Op1.{Op1}
@@ -20,7 +21,7 @@ pub data Term (N : Type 0) : Type 0 where
   -- the bits from lo up to hi
   part : Term N → (hi lo : ℕ) → Term N
 
--- `widths` has the width of a name, and of a memory's cells
+-- `widths` has the width of a name, and of a memory's cells.
 abbrev pub term_width : {N : Type 0} → (widths : N → ℕ) → Term N → ℕ
 term_width widths (constant w x) = w
 term_width widths (read n) = widths n

@@ -10,59 +10,59 @@ use Rattle.sap_meaning.specs.Cycle.{Tagged}
 abbrev pub Relation : Type 1
 Relation = (Same : Type 0) → (t u : ℕ) → Type 0
 
--- They look alike to one to whom some tags are low and others are high: they are the same, with equal tags, a low one; or
--- both tags are high.
+-- They look alike to one to whom some tags are low and others are high: they are the same, with equal tags, a low
+-- one; or both tags are high.
 abbrev pub AlikeBy : (low high : ℕ → Type 0) → Relation
 AlikeBy low high Same t u = (Same × (t ≡ u) × low t) ⊎ (high t × high u)
 
--- t is at or below l
+-- `t` is at or below `l`.
 abbrev pub Low : Order → ℕ → ℕ → Type 0
 Low o l t = o.le t l ≡ true
 
--- t is not at or below l
+-- `t` is not at or below `l`.
 abbrev pub High : Order → ℕ → ℕ → Type 0
 High o l t = o.le t l ≡ false
 
--- contents whose tags are levels look alike at l
+-- Contents whose tags are levels look alike at `l`.
 abbrev pub Alike : Order → (l : ℕ) → Relation
 Alike o l = AlikeBy (Low o l) (High o l)
 
--- one slot, its content being its number
+-- One slot looks alike, its content being its number.
 abbrev pub SlotsAlike : World → ℕ → Slot → Store → Store → Type 0
 SlotsAlike w l z s t = Alike w.order l (number z s ≡ number z t) (level w z s) (level w z t)
 
--- one part of a dynamic memory, whose level is kept at `whole`, its content being all its cells
+-- One part of a dynamic memory looks alike: its level is kept at `whole`, and its content is all its cells.
 abbrev pub PartsAlike : World → ℕ → (cell : ℕ → Slot) → (whole : Slot) → Store → Store → Type 0
 PartsAlike w l cell whole s t = Alike w.order l ((i : ℕ) → number (cell i) s ≡ number (cell i) t) (level w whole s) (level w whole t)
 
--- a state on the active path, with its tag
+-- A state on the active path has a tag.
 pub record ActiveState : Type 0 where
   pub state : ℕ
   pub tag : ℕ
 
--- The active path from the n-th of a group on: that state, and below it likewise from its current child on, down to a state
--- without children. `child` has the place of each state's current child, `tag` each state's tag. At a place that is no
--- child's the path ends too.
+-- The active path from the n-th of a group on: that state, and below it likewise from its current child on, down to a
+-- state without children. `child` has the place of each state's current child, `tag` each state's tag. At a place
+-- that is no child's the path ends too.
 abbrev pub path_from : (child tag : ℕ → ℕ) → Group → (n : ℕ) → List ActiveState
 path_from child tag no_node n = []
 path_from child tag (and_node (state_node c b k) g) zero = record { state = c; tag = tag c } ∷ path_from child tag k (child c)
 path_from child tag (and_node a g) (suc n) = path_from child tag g n
 
--- the active path in a store, from the root on, with levels for tags
+-- `active_path` is the active path in a store, from the root on, with levels for tags.
 abbrev pub active_path : Program → Store → List ActiveState
 active_path p s = path_from (λ x. child x s) (λ x. level p.world (own x) s) p.states (child (root p.world) s)
 
--- Two active paths are related: both have ended; or their first states are, by their tags, where to be the same means that
--- it is one state and that the paths below are related.
+-- Two active paths are related: both have ended; or their first states are, by their tags, where to be the same means
+-- that it is one state and that the paths below are related.
 abbrev pub PathsRelated : Relation → List ActiveState → List ActiveState → Type 0
 PathsRelated R [] [] = Unit {0}
 PathsRelated R [] (y ∷ ys) = ⊥
 PathsRelated R (x ∷ xs) [] = ⊥
 PathsRelated R (x ∷ xs) (y ∷ ys) = R ((x.state ≡ y.state) × PathsRelated R xs ys) x.tag y.tag
 
--- Two states look alike at or below l. Nothing is asked of inputs, nor of current children and dynamic states that are off
--- the active path or below a state on it that is not at or below l. All cells are compared, also those past a memory's
--- depth: no index of a design comes to these, so they keep what the first state has there.
+-- Two states look alike at or below l. Nothing is asked of inputs, nor of current children and dynamic states that
+-- are off the active path or below a state on it that is not at or below l. All cells are compared, also those past a
+-- memory's depth: no index of a design comes to these, so they keep what the first state has there.
 pub record StatesAgree (p : Program) (l : ℕ) (s t : Store) : Type 0 where
   pub registers : (x : ℕ) → is_register p.world x ≡ true → SlotsAlike p.world l (own x) s t
   pub enforced_memories : (m i : ℕ) → is_memory p.world m ≡ true → is_dynamic p.world m ≡ false
@@ -74,7 +74,7 @@ pub record StatesAgree (p : Program) (l : ℕ) (s t : Store) : Type 0 where
       → level p.world z s ≡ level p.world z t
   pub paths : PathsRelated (Alike p.world.order l) (active_path p s) (active_path p t)
 
--- the refusals whose level is at or below l
+-- `seen` has the refusals whose level is at or below `l`.
 abbrev pub seen : Order → ℕ → List Refusal → List Refusal
 seen o l rs = filter (λ r. o.le r.level l) rs
 
@@ -82,11 +82,11 @@ seen o l rs = filter (λ r. o.le r.level l) rs
 abbrev pub RefusalsAgree : Order → ℕ → List Refusal → List Refusal → Type 0
 RefusalsAgree o l rs qs = seen o l rs ≡ seen o l qs
 
--- as many inputs, and each alike
+-- There are as many inputs, and each looks alike.
 abbrev pub InputsAgree : Order → ℕ → List Tagged → List Tagged → Type 0
 InputsAgree o l inputs others = AllZip (λ a b. Alike o l (a.number ≡ b.number) a.level b.level) inputs others
 
--- as many cycles, and in each the inputs agree
+-- There are as many cycles, and in each the inputs agree.
 abbrev pub StreamsAgree : Order → ℕ → List (List Tagged) → List (List Tagged) → Type 0
 StreamsAgree o l stream other = AllZip (InputsAgree o l) stream other
 

@@ -4,7 +4,7 @@ use Rattle.sap_meaning.specs.Program.{World, is_dynamic, authority, Step, assign
 use Rattle.sap_meaning.specs.Store.{Store, own, start, level, child}
 use Rattle.sap_meaning.specs.Expressions.{value, tag, new_level, told}
 
--- where a command stands: the state in whose body, that state's parent, and its children
+-- A command stands in the body of a state, which has a parent and children.
 pub record Home : Type 0 where
   pub state : ℕ
   pub parent : ℕ
@@ -19,21 +19,21 @@ site_of (retag_cell site m j n) = site
 site_of (go_to site target) = site
 site_of (fall_to_child site hang) = site
 
--- what entering a state tells at least: its authority, the bottom where it is dynamic
+-- Entering a state tells at least its authority, and the bottom if it is dynamic.
 abbrev pub entry : World → ℕ → ℕ
 entry w x = if is_dynamic w x then w.order.bottom else authority w x
 
--- the level of the n-th child; where there is none, the bottom
+-- `child_level` is the level of the n-th child, and the bottom if there is none.
 abbrev pub child_level : World → Group → ℕ → Store → ℕ
 child_level w no_node n s = w.order.bottom
 child_level w (and_node (state_node c b k) g) zero s = level w (own c) s
 child_level w (and_node t g) (suc n) s = child_level w g n s
 
--- whether a fall may enter a child in the context pc
+-- `opens` says whether a fall may enter a child in the context `pc`.
 abbrev pub opens : World → ℕ → ℕ → Store → Bool
 opens w c pc s = is_dynamic w c || w.order.le pc (level w (own c) s)
 
--- whether a fall may enter the n-th child; where there is none, it may
+-- `child_opens` says whether a fall may enter the n-th child; if there is none, it may.
 abbrev pub child_opens : World → Group → ℕ → ℕ → Store → Bool
 child_opens w no_node n pc s = true
 child_opens w (and_node (state_node c b k) g) zero pc s = opens w c pc s

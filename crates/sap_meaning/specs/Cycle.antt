@@ -6,22 +6,22 @@ use Rattle.sap_meaning.specs.Touches.{root_touches}
 use Rattle.sap_meaning.specs.Does.{does_state}
 use Rattle.sap_meaning.specs.Runs.{run_state}
 
--- what an input gets in a cycle
+-- An input gets a number and a level in a cycle.
 pub record Tagged : Type 0 where
   pub number : ℕ
   pub level : ℕ
 
--- how many inputs stand before an entity
+-- `inputs_before` says how many inputs stand before an entity.
 abbrev pub inputs_before : List Entity → ℕ → ℕ
 inputs_before [] x = 0
 inputs_before (e ∷ es) zero = 0
 inputs_before (e ∷ es) (suc x) = if kind_is_input e.kind then suc (inputs_before es x) else inputs_before es x
 
--- what the input x gets, the inputs being in the order of their declaration
+-- `given` is what the input `x` gets, the inputs being in the order of their declaration.
 abbrev pub given : World → List Tagged → ℕ → Tagged
 given w inputs x = get_or inputs (inputs_before w.entities x) (record { number = 0; level = w.order.bottom })
 
--- new contents for the inputs
+-- The inputs have new contents.
 abbrev pub at_inputs : World → (ℕ → ℕ) → (Slot → ℕ) → Slot → ℕ
 at_inputs w new old (own x) = if is_input w x then new x else old (own x)
 at_inputs w new old (start m i) = old (start m i)
@@ -45,7 +45,7 @@ root_fall w hangs body (and_node (state_node c b k) g) zero s =
     body (state_node c b k) t (raise w.order hangs t s)
 root_fall w hangs body (and_node t g) (suc n) s = root_fall w hangs body g n s
 
--- the inputs are set, the root falls, and the next parts become the start parts
+-- The inputs are set, the root falls, and the next parts become the start parts.
 unfoldable pub cycle : Program → List Tagged → Store → After
 cycle p inputs s =
     let w = p.world in
@@ -61,7 +61,7 @@ cycle_listed p inputs s =
     let a = root_fall w (listed p.hang) (λ t. run_state w t (root w)) p.states (child (root w) begun) begun in
     record { store = settle a.store; refused = a.refused }
 
--- the state after each cycle, with the cycle's refusals
+-- `run_from` is the state after each cycle, with the cycle's refusals.
 abbrev pub run_from : Program → Store → List (List Tagged) → List After
 run_from p s [] = []
 run_from p s (inputs ∷ rest) = let a = cycle p inputs s in a ∷ run_from p a.store rest

@@ -44,7 +44,8 @@ attempt w at enter k hangs handler pc s =
     let a = handler inside r in
     record { store = a.store; refused = refusal ∷ a.refused })
 
--- A step with `then`: where its test holds, the accepted part comes behind its effect, in the context joined with the guard.
+-- A step with `then`: where its test holds, the accepted part comes behind its effect, in the context joined with the
+-- guard.
 unfoldable pub attempt_then : World → Home → (ℕ → ℕ → Store → After) → Step → (ℕ → Bool) → (accepted refused : ℕ → Store → After) → ℕ → Store → After
 attempt_then w at enter k hangs accepted refused pc s =
     let g = guard w at k s in
@@ -62,15 +63,15 @@ select w e hangs pick pc s =
     let t = tag w e s in
     pick (value w e s) (w.order.join pc t) (raise w.order hangs t s)
 
--- the second where the number is 0
+-- `branch` is the second where the number is 0, and else the first.
 abbrev pub branch : (ℕ → Store → After) → (ℕ → Store → After) → ℕ → ℕ → Store → After
 branch then_part else_part n pc s = if nat_eq n 0 then else_part pc s else then_part pc s
 
--- whether the number is one of an arm's constants
+-- `is_constant` says whether the number is one of an arm's constants.
 abbrev pub is_constant : List ℕ → ℕ → Bool
 is_constant constants n = list_any (λ c. nat_eq n c) constants
 
--- the first where the number is one of the constants, else the second
+-- `choose_arm` is the first where the number is one of the constants, and else the second.
 abbrev pub choose_arm : List ℕ → (ℕ → Store → After) → (ℕ → ℕ → Store → After) → ℕ → ℕ → Store → After
 choose_arm constants arm others n pc s = if is_constant constants n then arm pc s else others n pc s
 
@@ -84,23 +85,23 @@ unfoldable mutual
   does w at enter (try_then k hang a b) = attempt_then w at enter k (touches w at (try_then k hang a b)) (does_block w at enter a) (does_block w at enter b)
   does w at enter (case_of hang e arms) = select w e (touches w at (case_of hang e arms)) (does_arms w at enter arms)
 
-  -- the block of the first arm that has the number, else the last block
+  -- The block of the first arm that has the number is done, or else the last block.
   pub does_arms : World → Home → (ℕ → ℕ → Store → After) → Arms → ℕ → ℕ → Store → After
   does_arms w at enter (last_arm b) = λ n. does_block w at enter b
   does_arms w at enter (and_arm constants b arms) = choose_arm constants (does_block w at enter b) (does_arms w at enter arms)
 
-  -- a list of commands, in order
+  -- The commands of a list are done in order.
   pub does_block : World → Home → (ℕ → ℕ → Store → After) → Block → ℕ → Store → After
   does_block w at enter end_block pc s = stay s
   does_block w at enter (command_then c cs) pc s = and_then (does w at enter c pc s) (does_block w at enter cs pc)
 
 -- What a state's body does, and what the children do into which it falls.
 unfoldable mutual
-  -- a state's body
+  -- A state's body is done.
   pub does_state : World → State → (parent : ℕ) → ℕ → Store → After
   does_state w (state_node s b g) parent pc st = does_block w (record { state = s; parent = parent; children = g }) (does_child w g s) b pc st
 
-  -- the body of the n-th state of the parent's group
+  -- The body of the n-th state of the parent's group is done.
   pub does_child : World → Group → (parent n : ℕ) → ℕ → Store → After
   does_child w no_node parent n pc st = stay st
   does_child w (and_node t g) parent zero pc st = does_state w t parent pc st

@@ -9,11 +9,11 @@ use Rattle.sap_meaning.specs.Store.{Store, own, start, number, level}
 abbrev pub width_of : World → Term ℕ → ℕ
 width_of w e = term_width (width w) e
 
--- memory reads see the start part
+-- A read of a memory sees its start part.
 abbrev pub value : World → Term ℕ → Store → ℕ
 value w e s = term_value (width w) (λ x. number (own x) s) (λ m i. number (start m i) s) e
 
--- the join of the levels of all that is read; a memory read joins those of the index and of the cell
+-- The tag is the join of the levels of all that is read; a memory read joins those of the index and of the cell.
 abbrev pub tag : World → Term ℕ → Store → ℕ
 tag w (constant u n) s = w.order.bottom
 tag w (read x) s = level w (own x) s
@@ -24,18 +24,18 @@ tag w (choose c a b) s = w.order.join (tag w c s) (w.order.join (tag w a s) (tag
 tag w (join a b) s = w.order.join (tag w a s) (tag w b s)
 tag w (part a hi lo) s = tag w a s
 
--- the level at a place of the lattice file, the top beyond the last
+-- `level_at` is the level at a place of the lattice file, the top beyond the last.
 abbrev pub level_at : Order → ℕ → ℕ
 level_at o n = if nat_lt n o.count then n else o.top
 
--- the level that a tag expression gives
+-- `new_level` is the level that a tag expression gives.
 abbrev pub new_level : World → LevelTerm → Store → ℕ
 new_level w (fixed n) s = n
 new_level w (of e) s = tag w e s
 new_level w (at_place e) s = level_at w.order (value w e s)
 new_level w (both a b) s = w.order.join (new_level w a s) (new_level w b s)
 
--- the level of what a tag expression tells
+-- `told` is the level of what a tag expression tells.
 abbrev pub told : World → LevelTerm → Store → ℕ
 told w (fixed n) s = w.order.bottom
 told w (of e) s = tag w e s

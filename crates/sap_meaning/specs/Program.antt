@@ -28,7 +28,7 @@ pub record World : Type 0 where
   pub entities : List Entity
   pub children : List ℕ
 
--- what a number past the last entity stands for
+-- A number past the last entity stands for this.
 abbrev pub nothing : Entity
 nothing = record { kind = state 0 0; width = 0; dynamic = true; declared = 0; authority = 0; initial = 0 }
 
@@ -121,15 +121,15 @@ depth_of register = 0
 depth_of (memory depth) = depth
 depth_of (state place last) = 0
 
--- a state's place in its group
+-- `place` is a state's place in its group.
 abbrev pub place : World → ℕ → ℕ
 place w s = place_of (entity w s).kind
 
--- the number of the last state inside a state
+-- `last` is the number of the last state inside a state.
 abbrev pub last : World → ℕ → ℕ
 last w s = last_of (entity w s).kind
 
--- x is a state below s
+-- `x` is a state below s.
 abbrev pub below : World → ℕ → ℕ → Bool
 below w s x = is_state w x && (nat_lt s x && nat_le x (last w s))
 
@@ -151,8 +151,8 @@ pub data Step : Type 0 where
   fall_to_child : (site : ℕ) → (hang : List Bool) → Step
 
 mutual
-  -- A step alone, a step with `otherwise`, `if`, a step with `then` and `otherwise`, and `case`, all but the first with what
-  -- hangs on them: at each entity's number whether it hangs.
+  -- A step alone, a step with `otherwise`, `if`, a step with `then` and `otherwise`, and `case`, all but the first
+  -- with what hangs on them: at each entity's number whether it hangs.
   pub data Command : Type 0 where
     lone : Step → Command
     try : Step → (hang : List Bool) → (handler : Block) → Command
@@ -160,7 +160,7 @@ mutual
     try_then : Step → (hang : List Bool) → (accepted refused : Block) → Command
     case_of : (hang : List Bool) → (number : Term ℕ) → Arms → Command
 
-  -- the arms of a `case`, each with the numbers of its constants, and the block after `else`
+  -- The arms of a `case` have the numbers of their constants each, and the block after `else` comes last.
   pub data Arms : Type 0 where
     last_arm : Block → Arms
     and_arm : (constants : List ℕ) → Block → Arms → Arms
@@ -171,7 +171,7 @@ mutual
     command_then : Command → Block → Block
 
 mutual
-  -- a state with its number, its body and its children
+  -- A state has its number, its body and its children.
   pub data State : Type 0 where
     state_node : (number : ℕ) → (body : Block) → (children : Group) → State
 

@@ -69,7 +69,7 @@ program_sites p = site_numbers (placed_sites p)
 abbrev pub refused_sites : List Refusal → List ℕ
 refused_sites rs = map (λ r. r.site) rs
 
--- the first list is the second with some items left out
+-- The first list is the second with some items left out.
 abbrev pub Sublist : List ℕ → List ℕ → Type 0
 Sublist [] ys = Unit {0}
 Sublist (x ∷ xs) [] = ⊥
@@ -80,7 +80,7 @@ abbrev pub RisesFrom : ℕ → List ℕ → Type 0
 RisesFrom n [] = Unit {0}
 RisesFrom n (x ∷ xs) = (n ≤ x) × RisesFrom (suc x) xs
 
--- k, k + 1, .., as many as this
+-- The numbers are `k`, `k + 1` and so on, as many as this.
 abbrev pub numbers_from : (k count : ℕ) → List ℕ
 numbers_from k zero = []
 numbers_from k (suc n) = k ∷ numbers_from (suc k) n

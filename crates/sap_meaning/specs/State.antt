@@ -6,7 +6,7 @@ use Rattle.sap_meaning.specs.Store.{Store, Slot, own, start, next, start_whole, 
 use Rattle.sap_meaning.specs.Cycle.{Tagged, run_from}
 use Rattle.sap_meaning.specs.Store.{After}
 
--- registers start with their number, cells with 0
+-- Registers start with their number, cells with 0.
 abbrev pub first_number : World → Slot → ℕ
 first_number w (own x) = (entity w x).initial
 first_number w (start m i) = 0
@@ -14,11 +14,11 @@ first_number w (next m i) = 0
 first_number w (start_whole m) = 0
 first_number w (next_whole m) = 0
 
--- dynamic entities start at the bottom, enforced ones with their declared level
+-- Dynamic entities start at the bottom, enforced ones with their declared level.
 abbrev pub first_level : World → Slot → ℕ
 first_level w z = if is_dynamic w (owner z) then w.order.bottom else (entity w (owner z)).declared
 
--- each group's current child is its first
+-- Each group's current child is its first.
 unfoldable pub first : World → Store
 first w = record { number = first_number w; level = first_level w; child = λ p. 0 }
 
@@ -28,17 +28,17 @@ pub record Holds (w : World) (s : Store) : Type 0 where
   pub above : (z : Slot) → held w z ≡ true → is_dynamic w (owner z) ≡ false → w.order.le (authority w (owner z)) (level w z s) ≡ true
   pub seated : (p : ℕ) → 0 < children w p → s.child p < children w p
 
--- between cycles the two parts of each memory are equal
+-- Between cycles the two parts of each memory are equal.
 pub record Rests (w : World) (s : Store) : Type 0 where
   pub numbers : (m i : ℕ) → number (start m i) s ≡ number (next m i) s
   pub levels : (m i : ℕ) → level w (start m i) s ≡ level w (next m i) s
 
--- a state between cycles
+-- A state between cycles keeps these rules.
 pub record Resting (w : World) (s : Store) : Type 0 where
   pub holds : Holds w s
   pub rests : Rests w s
 
--- the run from the first state
+-- `labelled_run` is the run from the first state.
 abbrev pub labelled_run : Program → List (List Tagged) → List After
 labelled_run p stream = run_from p (first p.world) stream
 
@@ -47,12 +47,12 @@ pub record Fits (w : World) (s : Store) : Type 0 where
   pub numbers : (z : Slot) → number z s < 2 ^ width w (owner z)
   pub levels : (z : Slot) → s.level z < w.order.count
 
--- the widths of the inputs, in order
+-- `input_widths` are the widths of the inputs, in order.
 abbrev pub input_widths : List Entity → List ℕ
 input_widths [] = []
 input_widths (e ∷ es) = if kind_is_input e.kind then e.width ∷ input_widths es else input_widths es
 
--- one number below 2 to its width and one level for each input
+-- There are one number below 2 to its width and one level for each input.
 abbrev pub AllFit : (levels : ℕ) → (widths : List ℕ) → List Tagged → Type 0
 AllFit levels [] [] = Unit {0}
 AllFit levels [] (t ∷ ts) = ⊥
@@ -63,6 +63,6 @@ AllFit levels (u ∷ us) (t ∷ ts) = (t.number < 2 ^ u) × (t.level < levels) �
 abbrev pub InputsFit : World → List Tagged → Type 0
 InputsFit w inputs = AllFit w.order.count (input_widths w.entities) inputs
 
--- a stream that fits: so in every cycle
+-- A stream fits if it does so in every cycle.
 abbrev pub StreamFits : World → List (List Tagged) → Type 0
 StreamFits w stream = AllByRecursion (InputsFit w) stream

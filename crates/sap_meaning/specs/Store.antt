@@ -18,7 +18,7 @@ pub record Store : Type 0 where
   pub level : Slot → ℕ
   pub child : ℕ → ℕ
 
--- the entity to which a slot belongs
+-- `owner` is the entity to which a slot belongs.
 abbrev pub owner : Slot → ℕ
 owner (own x) = x
 owner (start m i) = m
@@ -34,8 +34,8 @@ home w (next m i) = if is_dynamic w m then next_whole m else next m i
 home w (start_whole m) = start_whole m
 home w (next_whole m) = next_whole m
 
--- Whether a slot has a number, and a level of its own where its entity is enforced: that of an entity that is no memory,
--- or of a memory's cell.
+-- Whether a slot has a number, and a level of its own where its entity is enforced: that of an entity that is no
+-- memory, or of a memory's cell.
 abbrev pub held : World → Slot → Bool
 held w (own x) = not (is_memory w x)
 held w (start m i) = is_memory w m
@@ -76,8 +76,8 @@ put_level w z t s = record s { level = λ y. if same_slot y (home w z) then t el
 unfoldable pub put_child : ℕ → ℕ → Store → Store
 put_child p n s = record s { child = λ q. if nat_eq q p then n else s.child q }
 
--- The slots whose level a raise changes: those of a state or a register, and the next part of a memory, whose own slot has nothing.
--- Enforced entities, and so single cells, are never raised.
+-- The slots whose level a raise changes: those of a state or a register, and the next part of a memory, whose own
+-- slot has nothing. Enforced entities, and so single cells, are never raised.
 abbrev pub raised : (ℕ → Bool) → Slot → Bool
 raised hangs (own x) = hangs x
 raised hangs (start m i) = false
@@ -85,11 +85,11 @@ raised hangs (next m i) = false
 raised hangs (start_whole m) = false
 raised hangs (next_whole m) = hangs m
 
--- the level of all that hangs becomes its join with t
+-- The level of each entity that depends on the command becomes its join with `t`.
 unfoldable pub raise : Order → (ℕ → Bool) → ℕ → Store → Store
 raise o hangs t s = record s { level = λ z. if raised hangs z then o.join (s.level z) t else s.level z }
 
--- the slots of the dynamic states below a state
+-- `lowered` are the slots of the dynamic states below a state.
 abbrev pub lowered : World → ℕ → Slot → Bool
 lowered w target (own x) = below w target x && is_dynamic w x
 lowered w target (start m i) = false
@@ -97,14 +97,14 @@ lowered w target (next m i) = false
 lowered w target (start_whole m) = false
 lowered w target (next_whole m) = false
 
--- every group under a state returns to its first child, and the dynamic states below it get the bottom
+-- Every group under a state returns to its first child, and the dynamic states below it get the bottom.
 unfoldable pub reset : World → ℕ → Store → Store
 reset w target s = record s {
   level = λ z. if lowered w target z then w.order.bottom else s.level z;
   child = λ p. if nat_eq p target then 0 else if below w target p then 0 else s.child p;
 }
 
--- from where a slot takes its content when a cycle ends
+-- A slot takes its content from there when a cycle ends.
 abbrev pub source : Slot → Slot
 source (own x) = own x
 source (start m i) = next m i
@@ -112,16 +112,16 @@ source (next m i) = next m i
 source (start_whole m) = next_whole m
 source (next_whole m) = next_whole m
 
--- the next parts of memories become the start parts
+-- The next parts of memories become the start parts.
 unfoldable pub settle : Store → Store
 settle s = record s { number = λ z. s.number (source z); level = λ z. s.level (source z) }
 
--- a refused check site, with its level
+-- A refusal is a refused check site, with its level.
 pub record Refusal : Type 0 where
   pub site : ℕ
   pub level : ℕ
 
--- the store after, and what was refused, in order
+-- A command leaves a store, and what was refused, in order.
 pub record After : Type 0 where
   pub store : Store
   pub refused : List Refusal

@@ -4,7 +4,7 @@ use Rattle.sap_meaning.specs.Program.{World, is_dynamic, Step, assign, write, re
 use Rattle.sap_meaning.specs.Walks.{some, some_in_arms, some_in_block, some_body, some_body_in}
 use Rattle.sap_meaning.specs.Checks.{Home}
 
--- a step assigns the register or memory x
+-- A step assigns the register or memory `x`.
 abbrev pub step_assigns : Step → ℕ → Bool
 step_assigns (assign site y e) x = nat_eq x y
 step_assigns (write site m i e) x = nat_eq x m
@@ -58,7 +58,7 @@ state_retags t x = some_body (λ b. block_retags b x) t
 abbrev pub group_retags : Group → ℕ → Bool
 group_retags g x = some_body_in (λ b. block_retags b x) g
 
--- x is one of the states of a group
+-- The entity `x` is one of the states of a group.
 abbrev pub among : Group → ℕ → Bool
 among no_node x = false
 among (and_node (state_node s b k) g) x = nat_eq x s || among g x
@@ -85,11 +85,11 @@ arms_hang s g arms x = some_in_arms (λ k. step_hangs s g k x) arms
 abbrev pub block_hangs : ℕ → Group → Block → ℕ → Bool
 block_hangs s g b x = some_in_block (λ k. step_hangs s g k x) b
 
--- the dynamic entities among them
+-- `touches` has the dynamic entities among them.
 abbrev pub touches : World → Home → Command → ℕ → Bool
 touches w at c x = is_dynamic w x && hangs at.state at.children c x
 
--- the root's fall has all states below it
+-- The root's fall has all states below it.
 abbrev pub root_touches : World → Group → ℕ → Bool
 root_touches w g x = is_dynamic w x && (among g x || group_assigns g x)
 

@@ -1,4 +1,5 @@
--- Walks over a program. A definition that asks the same of all parts, or gathers from all of them, is a walk, and says what it asks or has of one.
+-- Walks over a program. A definition that asks the same of all parts, or gathers from all of them, is a walk, and
+-- says what it asks or has of one.
 use Rattle.std.specs.Prelude.{ℕ, Bool, false, ◌||◌, List, [], ◌∷◌}
 use Rattle.sap_maps.specs.Term.{Term}
 use Rattle.sap_meaning.specs.Program.{LevelTerm, fixed, of, at_place, both, Step, Command, lone, try, if_else, try_then, case_of, Arms, last_arm, and_arm, Block, end_block, command_then, State, state_node, Group, no_node, and_node}
@@ -39,7 +40,8 @@ Asks P Q (if_else hang e a b) = Q e
 Asks P Q (try_then k hang a b) = P k
 Asks P Q (case_of hang e arms) = Q e
 
--- A fold: `own c below` is what a command has where its blocks have `below`, which is what their commands have, joined in the order of the text, or `none`.
+-- A fold: `own c below` is what a command has where its blocks have `below`, which is what their commands have,
+-- joined in the order of the text, or `none`.
 module _ {A : Type 0} (none : A) (join : A → A → A) (own : Command → (below : A) → A) where
   -- A value made from a command from below: `own` of the command and of what its blocks give, joined in order.
   abbrev mutual
@@ -58,7 +60,7 @@ module _ {A : Type 0} (none : A) (join : A → A → A) (own : Command → (belo
     folded_in_block end_block = none
     folded_in_block (command_then c cs) = join (folded c) (folded_in_block cs)
 
--- what f has of each step, joined in the order of the text
+-- What `f` has of each step is joined in the order of the text.
 module _ {A : Type 0} (none : A) (join : A → A → A) (f : Step → A) where
   -- What a command's own step gives, joined with what its blocks give.
   abbrev pub with_step : Command → (below : A) → A
@@ -80,7 +82,7 @@ module _ {A : Type 0} (none : A) (join : A → A → A) (f : Step → A) where
   abbrev pub gathered_in_block : Block → A
   gathered_in_block b = folded_in_block none join with_step b
 
--- the same commands with other steps and other lists of what hangs
+-- The commands are the same with other steps and other lists of what depends on them.
 module _ (step : Step → Step) (hang_of : Command → List Bool) where
   -- A command with each step and each list of what hangs replaced.
   abbrev mutual
@@ -99,7 +101,7 @@ module _ (step : Step → Step) (hang_of : Command → List Bool) where
     mapped_block end_block = end_block
     mapped_block (command_then c cs) = command_then (mapped c) (mapped_block cs)
 
--- p holds of some step
+-- `p` holds of some step.
 abbrev pub some : (p : Step → Bool) → Command → Bool
 some p c = gathered false ◌||◌ p c
 
@@ -131,7 +133,7 @@ module _ (P : Block → Type 0) where
     EveryBodyIn no_node = Unit {0}
     EveryBodyIn (and_node t g) = EveryBody t × EveryBodyIn g
 
--- what f has of each state, joined, a state before those below it
+-- What `f` has of each state is joined, a state before those below it.
 module _ {A : Type 0} (none : A) (join : A → A → A) (f : State → A) where
   -- What f gives for a state and all states below it, joined in order.
   abbrev mutual

@@ -23,7 +23,7 @@ entity_of (Memory place name width depth kind) =
 abbrev pub declared_in : List Decl → List Entity
 declared_in ds = map entity_of ds
 
--- a state stands before its children
+-- A state stands before its children.
 abbrev mutual
   pub state_entities : StateTree → List Entity
   state_entities (state_node place name kind body children) =
@@ -37,20 +37,20 @@ abbrev mutual
 abbrev pub entities_of : DesignTree → List Entity
 entities_of d = declared_in d.declarations ++ group_entities d.states
 
--- what is known of each name
+-- A look-up has what is known of each name.
 abbrev pub Lookup : Type 0
 Lookup = List ℕ → Option Declared
 
--- the first declaration of a name counts
+-- The first declaration of a name counts.
 abbrev pub find : List Entity → List ℕ → Option Entity
 find es name = list_find (λ e. bytes_eq e.name.name name) es
 
--- its number, from 0 in the order of the text
+-- `number_of` is the number of a name, from 0 in the order of the text.
 abbrev pub number_of : List Entity → List ℕ → Option ℕ
 number_of [] name = None
 number_of (e ∷ es) name = if bytes_eq e.name.name name then Some 0 else option_map (λ n. n + 1) (number_of es name)
 
--- the same, and 0 for a name that is declared nowhere
+-- `entity_number` is that number, and 0 for a name that is declared nowhere.
 abbrev pub entity_number : List Entity → List ℕ → ℕ
 entity_number es name = unwrap_or (number_of es name) 0
 
@@ -58,7 +58,7 @@ entity_number es name = unwrap_or (number_of es name) 0
 abbrev pub what_is : List Entity → Lookup
 what_is es name = option_map (λ e. e.what) (find es name)
 
--- what stands for a name is dynamic; is enforced
+-- What stands for a name is dynamic, or is enforced.
 abbrev pub dynamic_of : Option Entity → Bool
 dynamic_of None = false
 dynamic_of (Some e) = e.dynamic

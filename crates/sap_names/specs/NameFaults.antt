@@ -1,4 +1,5 @@
--- The faults of names and widths, E3 to E9: each sentence once, over the tree. A list has the faults that stand, in no order that counts.
+-- The faults of names and widths, E3 to E9: each sentence once, over the tree. A list has the faults that stand, in
+-- no order that counts.
 use Rattle.std.specs.Prelude.{ℕ, List, [], ◌∷◌, ◌++◌, Option, Some, None, Bool, true, false, not, eqb, leb, ◌&&◌, ◌^◌, if◌then◌else◌, bytes_eq, is_some}
 use Rattle.sap_tree.specs.declared.name.Mention.{Mention}
 use Rattle.sap_text.specs.declared.place.Place.{Place}
@@ -20,23 +21,23 @@ use Rattle.sap_names.specs.declared.kind.Code.TheVariants.{E3, E4, E5, E6, E7, E
 use Rattle.sap_names.specs.Entities.{Entity, Lookup, what_is, entities_of}
 use Rattle.sap_names.specs.Widths.{sound_width, index_bits, register_width, cell_width, index_width, own, width_of, family, asked_left, asked_right, asked_one, is_sound, all_sound}
 
--- a fault where the test holds
+-- There is a fault where the test holds.
 abbrev pub fault_if : Bool → Code → Place → List Fault
 fault_if test code place = if test then (let f : Fault = record { code = code; place = place } in f ∷ []) else []
 
--- own and asked-for width differ, or neither is there
+-- The own width and the asked one differ, or neither is there.
 abbrev pub unsettled : (own asked : Option ℕ) → Bool
 unsettled None None = true
 unsettled None (Some r) = false
 unsettled (Some w) None = false
 unsettled (Some w) (Some r) = not (eqb w r)
 
--- a number that a width can't hold
+-- The number is one that a width can't hold.
 abbrev pub too_large : Option ℕ → (value : ℕ) → Bool
 too_large None value = false
 too_large (Some w) value = leb (2 ^ w) value
 
--- E4 where a used name is declared nowhere, E5 where it is of the wrong kind
+-- E4 applies where a used name is declared nowhere, E5 where it is of the wrong kind.
 abbrev pub fits_use : Use → Declared → Bool
 fits_use u.Assigned (d.Input width) = false
 fits_use u.Assigned (d.Register width) = true
@@ -68,7 +69,7 @@ use_faults how (Some declared) place = fault_if (not (fits_use how declared)) E5
 abbrev pub name_faults : Use → Lookup → Mention → List Fault
 name_faults how what m = use_faults how (what m.name) m.place
 
--- what stands in an expression, where its place asks for a width or for none
+-- These faults are in an expression whose place asks for a width or for none.
 abbrev mutual
   pub expression_faults : Lookup → Expression → (asked : Option ℕ) → List Fault
   expression_faults what (literal spot value) asked =
@@ -123,11 +124,11 @@ abbrev pub constants_faults : Lookup → (asked : Option ℕ) → Expressions �
 constants_faults what asked no_part = []
 constants_faults what asked (and_part e parts) = expression_faults what e asked ++ constants_faults what asked parts
 
--- E6: a level name that is no level
+-- E6: a level name is no level.
 abbrev pub is_level : List (List ℕ) → List ℕ → Bool
 is_level levels name = is_some (level_named levels name)
 
--- both are levels, and the first is not at or below the second
+-- Both are levels, and the first is not at or below the second.
 abbrev pub not_below : (ℕ → ℕ → Bool) → Option ℕ → Option ℕ → Bool
 not_below le (Some a) (Some b) = not (le a b)
 not_below le (Some a) None = false
@@ -183,7 +184,7 @@ abbrev mutual
   else_faults levels what no_else = []
   else_faults levels what (with_else b) = block_faults levels what b
 
-  -- each constant is asked for the width of the number that it is compared with
+  -- Each constant is asked for the width of the number that it is compared with.
   pub arms_faults : List (List ℕ) → Lookup → (asked : Option ℕ) → Arms → List Fault
   arms_faults levels what asked (last_arm block) = block_faults levels what block
   arms_faults levels what asked (and_arm constants block arms) =
@@ -193,7 +194,8 @@ abbrev mutual
   commands_faults levels what no_command = []
   commands_faults levels what (and_command c cs) = command_faults levels what c ++ commands_faults levels what cs
 
--- what a kind says: E6 at a level name that is no level, E9 where the authority isn't at or below the level; `le` is the order of the levels
+-- A kind has E6 at a level name that is no level, and E9 where the authority isn't at or below the level; `le` is the
+-- order of the levels.
 abbrev pub under_faults : List (List ℕ) → (le : ℕ → ℕ → Bool) → Mention → Option Under → List Fault
 under_faults levels le level None = []
 under_faults levels le level (Some under) =
@@ -239,17 +241,17 @@ abbrev mutual
   states_faults levels le what no_state = []
   states_faults levels le what (and_state s rest) = state_faults levels le what s ++ states_faults levels le what rest
 
--- E3: a declared name that is declared earlier
+-- E3: a declared name is declared earlier.
 abbrev pub is_declared : List Entity → List ℕ → Bool
 is_declared [] name = false
 is_declared (e ∷ es) name = if bytes_eq e.name.name name then true else is_declared es name
 
--- the entities that stand before, and those that follow
+-- E3 is found among the entities that stand before, and those that follow.
 abbrev pub twice : List Entity → List Entity → List Fault
 twice before [] = []
 twice before (e ∷ es) = fault_if (is_declared before e.name.name) E3 e.name.place ++ twice (before ++ e ∷ []) es
 
--- all of a design
+-- These are all faults of names and widths of a design.
 abbrev pub design_name_faults : List (List ℕ) → (le : ℕ → ℕ → Bool) → DesignTree → List Fault
 design_name_faults levels le d =
     let es = entities_of d in

@@ -11,11 +11,11 @@ use Rattle.sap_names.specs.declared.kind.Family.{Family}
 use Rattle.sap_names.specs.declared.kind.Family.TheVariants.{Arithmetic, Shift, Comparison}
 use Rattle.sap_names.specs.Entities.{Lookup}
 
--- a width is from 1 to 64
+-- `a` width is from 1 to 64.
 abbrev pub sound_width : ℕ → Option ℕ
 sound_width w = if leb 1 w && leb w 64 then Some w else None
 
--- of a memory of depth 2 to the b, b from 1 to 12, the b bits of its index
+-- A memory of depth 2 to the `b`, `b` from 1 to 12, has an index of `b` bits.
 abbrev pub bits_up_to : ℕ → ℕ → Option ℕ
 bits_up_to zero depth = None
 bits_up_to (suc b) depth = if eqb depth (2 ^ suc b) then Some (suc b) else bits_up_to b depth
@@ -24,7 +24,7 @@ bits_up_to (suc b) depth = if eqb depth (2 ^ suc b) then Some (suc b) else bits_
 abbrev pub index_bits : ℕ → Option ℕ
 index_bits depth = bits_up_to 12 depth
 
--- the width of what is read by a plain name: an input or a register
+-- `plain_width` is the width of what is read by a plain name: an input or a register.
 abbrev pub plain_width : Option Declared → Option ℕ
 plain_width None = None
 plain_width (Some (Input width)) = sound_width width
@@ -32,7 +32,7 @@ plain_width (Some (Register width)) = sound_width width
 plain_width (Some (Memory width depth)) = None
 plain_width (Some State) = None
 
--- the width of a register, for an assignment
+-- `register_width` is the width of a register that is assigned.
 abbrev pub register_width : Option Declared → Option ℕ
 register_width None = None
 register_width (Some (Input width)) = None
@@ -40,7 +40,7 @@ register_width (Some (Register width)) = sound_width width
 register_width (Some (Memory width depth)) = None
 register_width (Some State) = None
 
--- the width of a memory's cells, and of its index
+-- `cell_width` is the width of a memory's cells, and another that of its index.
 abbrev pub cell_width : Option Declared → Option ℕ
 cell_width None = None
 cell_width (Some (Input width)) = None
@@ -71,7 +71,7 @@ abbrev pub sliced : Option ℕ → ℕ → ℕ → Option ℕ
 sliced None high low = None
 sliced (Some w) high low = if leb low high && ltb high w then Some (high - low + 1) else None
 
--- both together, at most 64
+-- Both widths together are at most 64.
 abbrev pub joined : Option ℕ → Option ℕ → Option ℕ
 joined None other = None
 joined (Some w) None = None
@@ -92,13 +92,13 @@ family Le = Comparison
 family Shl = Shift
 family Shr = Shift
 
--- of two operands
+-- `own_binary` is the width that two operands give of themselves.
 abbrev pub own_binary : Family → Option ℕ → Option ℕ → Option ℕ
 own_binary Arithmetic left right = else_of left right
 own_binary Shift left right = left
 own_binary Comparison left right = Some 1
 
--- reductions give one bit
+-- Reductions give one bit.
 abbrev pub is_reduction : UnaryOperator → Bool
 is_reduction Not = false
 is_reduction Neg = false
@@ -120,16 +120,16 @@ abbrev mutual
   own what (concat spot parts) = own_parts what parts
   own what (zero_extend spot e width) = extended (own what e) width
 
-  -- of parts one behind the other
+  -- `own_parts` is the width of parts one behind the other.
   pub own_parts : Lookup → Expressions → Option ℕ
   own_parts what no_part = Some 0
   own_parts what (and_part e parts) = joined (own what e) (own_parts what parts)
 
--- the width of an expression where a place asks for a width, or for none
+-- `width_of` is the width of an expression where a place asks for a width, or for none.
 abbrev pub width_of : Lookup → Expression → (asked : Option ℕ) → Option ℕ
 width_of what e asked = else_of (own what e) asked
 
--- what an operator asks of its operands, where the whole's width is this one
+-- `asked_left` is what an operator asks of its operands if the whole's width is this one.
 abbrev pub asked_left : Family → (whole left right : Option ℕ) → Option ℕ
 asked_left Arithmetic whole left right = whole
 asked_left Shift whole left right = whole
@@ -150,11 +150,11 @@ asked_right Comparison whole left right = else_of left right
 abbrev pub asked_one : UnaryOperator → Option ℕ → Option ℕ
 asked_one operator whole = if is_reduction operator then None else whole
 
--- is there a width?
+-- `is_sound` says whether there is a width.
 abbrev pub is_sound : Option ℕ → Bool
 is_sound w = is_some w
 
--- have all parts a width of their own?
+-- `all_sound` says whether all parts have a width of their own.
 abbrev pub all_sound : Lookup → Expressions → Bool
 all_sound what no_part = true
 all_sound what (and_part e parts) = is_sound (own what e) && all_sound what parts

@@ -30,11 +30,11 @@ register_names n = map (λ x. x.name) n.registers
 abbrev pub memory_names : Net → List Name
 memory_names n = map (λ x. x.name) n.memories
 
--- the inputs and registers, which can be read from the start, with their widths
+-- The inputs and registers can be read from the start, with their widths.
 abbrev pub first_readable : Net → Scope
 first_readable n = map (λ x. (x.name, x.width)) n.inputs ++ map (λ x. (x.name, x.width)) n.registers
 
--- the inputs, registers and wires
+-- The inputs, registers and wires can be read.
 abbrev pub readable : Net → Scope
 readable n = readable_after (first_readable n) n.wires
 
@@ -42,7 +42,7 @@ readable n = readable_after (first_readable n) n.wires
 abbrev pub shapes : Net → Shapes
 shapes n = map (λ x. (x.name, (x.width, x.depth))) n.memories
 
--- the width of an input, register or wire
+-- `width_of` is the width of an input, register or wire.
 abbrev pub width_of : Net → Name → ℕ
 width_of n x = unwrap_or (find (readable n) x) 0
 

@@ -7,12 +7,12 @@ use Rattle.sap_net.specs.Net.{Net}
 use Rattle.sap_net.specs.IsNetlist.{IsNetlist, readable, shapes}
 use Rattle.sap_net.specs.Runs.{IsWithin, Begins, initial, InputsFit, AllFit, IsCycle, IsRun}
 
--- equal numbers at all inputs, registers and wires, and in all memories
+-- The numbers at all inputs, registers and wires, and in all memories, are equal.
 pub record AreSame (n : Net) (v w : Valuation) : Type 0 where
   pub value : (x : Name) (u : ℕ) → find (readable n) x ≡ Some u → v.value x ≡ w.value x
   pub cell : (m : Name) (s : ℕ × ℕ) → find (shapes n) m ≡ Some s → (i : ℕ) → v.cell m i ≡ w.cell m i
 
--- equal numbers in each cycle
+-- The numbers in each cycle are equal.
 abbrev pub AreSameRuns : Net → List Valuation → List Valuation → Type 0
 AreSameRuns n = AllZip (AreSame n)
 

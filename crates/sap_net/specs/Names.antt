@@ -38,7 +38,7 @@ abbrev pub AreDistinct : List Name → Type 0
 AreDistinct [] = Unit {0}
 AreDistinct (x ∷ xs) = (is_among x xs ≡ false) × AreDistinct xs
 
--- the name of a helping wire: an `n` and its number
+-- The name of a helping wire is an `n` and its number.
 unfoldable pub helper : ℕ → Name
 helper k = byte "n" ∷ decimal k
 

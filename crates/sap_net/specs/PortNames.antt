@@ -4,7 +4,7 @@ use Rattle.std.specs.Fmt.{decimal}
 use Rattle.std.specs.Str.{byte}
 use Rattle.sap_maps.specs.Maps.{Name}
 
--- the value and the tag of an entity, by its name
+-- The value and the tag of an entity have these names, by its own.
 abbrev pub value_name : Name → Name
 value_name x = codes "v_" ++ x
 
@@ -12,7 +12,7 @@ value_name x = codes "v_" ++ x
 abbrev pub tag_name : Name → Name
 tag_name x = codes "t_" ++ x
 
--- the number of the current child of a state, by its name, and of the root
+-- The number of the current child of a state has this name, by the state's own, and that of the root another.
 abbrev pub seat_name : Name → Name
 seat_name x = codes "s_" ++ x
 
@@ -20,7 +20,7 @@ seat_name x = codes "s_" ++ x
 abbrev pub root_seat : Name
 root_seat = codes "s_0"
 
--- whether a site is refused, and the level of its refusal
+-- One wire tells whether a site is refused, and another the level of its refusal.
 abbrev pub refused_name : ℕ → Name
 refused_name k = codes "c_" ++ decimal k
 

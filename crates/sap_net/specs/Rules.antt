@@ -13,7 +13,7 @@ use Rattle.sap_net.specs.declared.parts.Wire.{Wire}
 use Rattle.sap_net.specs.declared.parts.Register.{Register}
 use Rattle.sap_net.specs.declared.parts.Memory.{Memory}
 
--- the width and the depth of each memory
+-- `Shapes` has the width and the depth of each memory.
 abbrev pub Shapes : Type 0
 Shapes = List (Name × (ℕ × ℕ))
 
@@ -46,7 +46,7 @@ AreWires memories readable (w ∷ ws) =
     IsWidth w.width × (find readable w.name ≡ None) × (find memories w.name ≡ None) × IsRight memories readable w.width w.right
     × AreWires memories ((w.name, w.width) ∷ readable) ws
 
--- what can be read behind some wires
+-- `readable_after` is what can be read behind some wires.
 abbrev pub readable_after : Scope → List Wire → Scope
 readable_after readable [] = readable
 readable_after readable (w ∷ ws) = readable_after ((w.name, w.width) ∷ readable) ws

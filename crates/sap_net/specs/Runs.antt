@@ -10,7 +10,7 @@ use Rattle.sap_net.specs.Net.{Net}
 use Rattle.sap_net.specs.IsNetlist.{readable, shapes, width_of}
 use Rattle.sap_net.specs.Values.{operand_value, Holds}
 
--- every number is within its width
+-- Every number is within its width.
 pub record IsWithin (n : Net) (v : Valuation) : Type 0 where
   pub value : (x : Name) (u : ℕ) → find (readable n) x ≡ Some u → v.value x < 2 ^ u
   pub cell : (m : Name) (s : ℕ × ℕ) → find (shapes n) m ≡ Some s → (i : ℕ) → v.cell m i < 2 ^ s.0
@@ -20,13 +20,13 @@ pub record IsValuation (n : Net) (v : Valuation) : Type 0 where
   pub within : IsWithin n v
   pub equations : Holds (width_of n) v n.wires
 
--- the number of cell i of a memory after the edge
+-- `written` is the number of cell `i` of a memory after the edge.
 abbrev pub written : Valuation → Memory → (i : ℕ) → ℕ
 written v m i = if operand_value v m.enable == 1 && operand_value v m.index == i then operand_value v m.value else v.cell m.name i
 
--- What a cycle begins with. A memory's cells are counted on without end; those from its depth on keep their first number and are never read.
--- Registers and memories have their first numbers in the first cycle; in each later one a register has its right side in the cycle before, and a
--- memory what was written there.
+-- What a cycle begins with. A memory's cells are counted on without end; those from its depth on keep their first
+-- number and are never read. Registers and memories have their first numbers in the first cycle; in each later one a
+-- register has its right side in the cycle before, and a memory what was written there.
 abbrev pub Begins : Net → (before : Option Valuation) → Valuation → Type 0
 Begins n None v =
     AllByRecursion (λ r. v.value r.name ≡ r.start) n.registers × AllByRecursion (λ m. (i : ℕ) → v.cell m.name i ≡ m.start) n.memories
@@ -34,15 +34,15 @@ Begins n (Some p) v =
     AllByRecursion (λ r. v.value r.name ≡ operand_value p r.next) n.registers
     × AllByRecursion (λ m. (i : ℕ) → v.cell m.name i ≡ written p m i) n.memories
 
--- the number of a register before the first cycle
+-- `initial_number` is the number of a register before the first cycle.
 abbrev pub initial_number : Net → Name → ℕ
 initial_number n x = unwrap_or (find (map (λ r. (r.name, r.start)) n.registers) x) 0
 
--- the number of a memory's cells before the first cycle
+-- `initial_cell` is the number of a memory's cells before the first cycle.
 abbrev pub initial_cell : Net → Name → ℕ
 initial_cell n x = unwrap_or (find (map (λ m. (m.name, m.start)) n.memories) x) 0
 
--- the numbers before the first cycle: registers and memories have their starts, all else is 0
+-- Before the first cycle registers and memories have their starts, and all else is 0.
 abbrev pub initial : Net → Valuation
 initial n = record { value = initial_number n; cell = λ x i. initial_cell n x }
 
@@ -50,17 +50,17 @@ initial n = record { value = initial_number n; cell = λ x i. initial_cell n x }
 abbrev pub InputsFit : List Input → List ℕ → Type 0
 InputsFit = AllZip (λ (i : Input) (x : ℕ). x < 2 ^ i.width)
 
--- the inputs have these numbers
+-- The inputs have these numbers.
 abbrev pub InputsAre : Valuation → List Input → List ℕ → Type 0
 InputsAre v = AllZip (λ (i : Input) (x : ℕ). v.value i.name ≡ x)
 
--- the cycle after `before`, or the first, on these numbers of the inputs
+-- This is the cycle after `before`, or the first, on these numbers of the inputs.
 pub record IsCycle (n : Net) (before : Option Valuation) (inputs : List ℕ) (v : Valuation) : Type 0 where
   pub begins : Begins n before v
   pub given : InputsAre v n.inputs inputs
   pub valuation : IsValuation n v
 
--- the cycles after `before`, one on each list of inputs
+-- These are the cycles after `before`, one on each list of inputs.
 abbrev pub IsRunAfter : Net → (before : Option Valuation) → List (List ℕ) → List Valuation → Type 0
 IsRunAfter n before [] [] = Unit {0}
 IsRunAfter n before [] (v ∷ vs) = ⊥

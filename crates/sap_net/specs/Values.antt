@@ -14,7 +14,7 @@ abbrev pub operand_value : Valuation → Operand → ℕ
 operand_value v (Named x) = v.value x
 operand_value v (Constant w n) = n
 
--- `widths` has the width of each name
+-- `widths` has the width of each name.
 abbrev pub operand_width : (widths : Name → ℕ) → Operand → ℕ
 operand_width widths (Named x) = widths x
 operand_width widths (Constant w n) = w
@@ -24,7 +24,7 @@ abbrev pub operands_width : (widths : Name → ℕ) → List Operand → ℕ
 operands_width widths [] = 0
 operands_width widths (o ∷ os) = operand_width widths o + operands_width widths os
 
--- the operands one behind another, the foremost first
+-- The operands stand one behind another, the foremost first.
 abbrev pub operands_value : (widths : Name → ℕ) → Valuation → List Operand → ℕ
 operands_value widths v [] = 0
 operands_value widths v (o ∷ os) = joined (operand_value v o) (operands_width widths os) (operands_value widths v os)
@@ -39,7 +39,7 @@ right_value widths v (Concat os) = operands_value widths v os
 right_value widths v (Slice x hi lo) = slice_of (v.value x) hi lo
 right_value widths v (Cell m i) = v.cell m (operand_value v i)
 
--- every `assign` equation holds
+-- Every `assign` equation holds.
 abbrev pub Holds : (widths : Name → ℕ) → Valuation → List Wire → Type 0
 Holds widths v [] = Unit {0}
 Holds widths v (w ∷ ws) = (v.value w.name ≡ right_value widths v w.right) × Holds widths v ws

@@ -92,18 +92,21 @@ pub enum PortKind {
     Wire,
 }
 
+/// A port of a netlist: what it shows.
 #[derive(Debug, Drop)]
 pub struct Port {
     pub name: Name,
     pub kind: PortKind,
 }
 
+/// An input of a netlist.
 #[derive(Debug, Drop)]
 pub struct Input {
     pub name: Name,
     pub width: u32,
 }
 
+/// A wire of a netlist, with the right side of its equation.
 #[derive(Debug, Drop)]
 pub struct Wire {
     pub name: Name,

@@ -7,14 +7,15 @@ use Rattle.sap_lex.specs.declared.token.Token.{Token}
 use Rattle.sap_tree.specs.Syntax.{DesignTree}
 use Rattle.sap_walk.specs.Prefix as prefix
 
--- the tokens are this design, limits aside, and this is the first of them that breaks a limit, by its number from 0, with that limit, if any
+-- The tokens are this design, limits aside. The first of them that breaks a limit, if any, is told by its number from
+-- 0, with that limit.
 pub record Spells (ts : List Token) (d : DesignTree) (first : Option (ℕ × Limit)) : Type 0 where
   pub end : Stage
   pub design : Design (at_start ts) d end
   pub whole : end.left ≡ []
   pub first_is : end.past.first ≡ first
 
--- the tokens are this design, within the limits
+-- The tokens are this design, within the limits.
 abbrev pub IsDesign : List Token → DesignTree → Type 0
 IsDesign ts d = Spells ts d None
 

@@ -9,12 +9,12 @@ use Rattle.sap_lex.specs.declared.token.Kind.{Kind}
 use Rattle.sap_lex.specs.declared.token.Token.{Token}
 use Rattle.sap_tree.specs.Limits.{most_name_bytes, most_inputs, most_registers, most_memories, most_states, most_nesting, most_commands, most_blocks, most_brackets, most_tokens}
 
--- the bytes of a text
+-- A text has at most this many bytes.
 abbrev pub most_bytes : ℕ
 most_bytes = 1048576
 
--- what the tokens so far amount to: the declarations, states and commands that they begin, and, of the expression or tag expression that they
--- stand in and that stands in no other, the tokens, and the brackets that are open
+-- The tokens so far begin so many declarations, states and commands; and the expression or tag expression that they
+-- stand in, and that stands in no other, has so many tokens and open brackets.
 pub record Counts : Type 0 where
   pub inputs : ℕ
   pub registers : ℕ
@@ -28,7 +28,7 @@ pub record Counts : Type 0 where
 abbrev pub none_yet : Counts
 none_yet = record { inputs = 0; registers = 0; memories = 0; states = 0; commands = 0; tokens = 0; brackets = 0 }
 
--- between two expressions that stand in no other there is always a token that stands in none
+-- Between two expressions that stand in no other there is always a token that stands in none.
 abbrev pub outside : Counts → Counts
 outside c = record c { tokens = 0; brackets = 0 }
 
@@ -44,7 +44,7 @@ tally c r.Inner t = record c { tokens = c.tokens + 1 }
 tally c r.Opening t = record c { tokens = c.tokens + 1; brackets = c.brackets + 1 }
 tally c r.Closing t = record c { tokens = c.tokens + 1; brackets = c.brackets - 1 }
 
--- the limit, where there are more than it allows
+-- `above` is the limit if there are more than it allows.
 abbrev pub above : ℕ → ℕ → Limit → Option Limit
 above most n limit = if nat_lt most n then Some limit else None
 
@@ -71,6 +71,7 @@ breach_of_role c r.Inner = above most_tokens (c.tokens + 1) l.Expression
 breach_of_role c r.Opening = above most_brackets (c.brackets + 1) l.Brackets or_else above most_tokens (c.tokens + 1) l.Expression
 breach_of_role c r.Closing = above most_tokens (c.tokens + 1) l.Expression
 
--- the limit that this token breaks, after tokens of these counts; of several the first in the order of the limits
+-- `breach` is the limit that this token breaks after tokens of these counts, the first of several in the order of the
+-- limits.
 abbrev pub breach : Counts → Role → Token → Option Limit
 breach c role t = breach_of_name t.kind or_else breach_of_role c role

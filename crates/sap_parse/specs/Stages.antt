@@ -15,15 +15,15 @@ use Rattle.sap_tree.specs.declared.syntax.Numeral.{Numeral}
 use Rattle.sap_walk.specs.Limits.{Past, passed}
 use Rattle.sap_walk.specs.Walk as w
 
--- what is kept of the tokens before, and the tokens that are left
+-- A stage is what is kept of the tokens before, and the tokens that are left.
 abbrev pub Stage : Type 0
 Stage = w.Stage (Past Counts Limit) Token
 
--- before the first token
+-- `at_start` is the stage before the first token.
 abbrev pub at_start : List Token → Stage
 at_start ts = record { past = record { before = 0; counts = none_yet; first = None }; left = ts }
 
--- at p stands a token of this kind in this role, and q comes behind it
+-- At `p` stands a token of this kind in this role, and `q` comes behind it.
 pub record IsToken (p : Stage) (role : Role) (kind : Kind) (q : Stage) : Type 0 where
   pub token : Token
   pub left : p.left ≡ token ∷ q.left
@@ -50,23 +50,23 @@ IsNumber p role n q = IsToken p role (k.Number n) q
 abbrev pub IsSized : Stage → Role → ℕ → ℕ → Stage → Type 0
 IsSized p role width n q = IsToken p role (k.Sized width n) q
 
--- the place of the first token, where there is one
+-- `front_place` is the place of the first token, if there is one.
 abbrev pub front_place : List Token → Place
 front_place [] = record { line = 0; column = 0 }
 front_place (t ∷ ts) = t.place
 
--- the place of the token that stands here
+-- `here` is the place of the token that stands here.
 abbrev pub here : Stage → Place
 here p = front_place p.left
 
--- an expression that begins here and is named after the token here
+-- An expression that begins here and is named after the token here has this spot.
 abbrev pub spot_here : Stage → Spot
 spot_here p = record { first = here p; at = here p }
 
--- a name that stands here
+-- `mention` is a name that stands here.
 abbrev pub mention : Stage → List ℕ → Mention
 mention p name = record { place = here p; name = name }
 
--- a number that stands here
+-- `numeral` is a number that stands here.
 abbrev pub numeral : Stage → ℕ → Numeral
 numeral p n = record { place = here p; value = n }

@@ -12,7 +12,7 @@ use Rattle.sap_lex.specs.declared.token.Token.{Token}
 use Rattle.sap_tree.specs.Syntax.{DesignTree}
 use Rattle.sap_text.specs.declared.place.Place.{Place}
 
--- the text is this design, within the limits
+-- The text is this design, within the limits.
 pub record IsText (text : List ℕ) (design : DesignTree) : Type 0 where
   pub fits : length text ≤ most_bytes
   pub tokens : List Token

@@ -9,7 +9,7 @@ use Rattle.sap_lattice.specs.Levels.{Levels}
 use Rattle.sap_resolved.specs.Worlds.{world_of}
 use Rattle.sap_resolved.specs.Resolve.{states_of}
 
--- what a test says of the numbers below n, in order
+-- `table` has what a test says of the numbers below `n`, in order.
 abbrev pub table : ℕ → (ℕ → Bool) → List Bool
 table zero test = []
 table (suc n) test = table n test ++ test n ∷ []
@@ -23,7 +23,7 @@ filled_step w at (retag_cell site m j n) = retag_cell site m j n
 filled_step w at (go_to site target) = go_to site target
 filled_step w at (fall_to_child site hang) = fall_to_child site (table (root w) (touches w at (lone (fall_to_child site hang))))
 
--- what hangs on a command in the body of a state
+-- `filled_hang` has what depends on a command in the body of a state.
 abbrev pub filled_hang : World → Home → Command → List Bool
 filled_hang w at c = table (root w) (touches w at c)
 
@@ -49,7 +49,7 @@ abbrev mutual
   filled_group w p no_node = no_node
   filled_group w p (and_node t rest) = and_node (filled_state w p t) (filled_group w p rest)
 
--- the program of a design over the levels of a lattice
+-- `program_of` is the program of a design over the levels of a lattice.
 abbrev pub program_of : Levels → DesignTree → Program
 program_of ls d =
     let w = world_of ls d in

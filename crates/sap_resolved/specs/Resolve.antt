@@ -1,5 +1,6 @@
--- The commands and states of a design with numbers for names. Each check site has its number, from 1 in the order of the text: it is one more than the length of
--- the walk's list up to it (`sap_shape`, `Sites`). Another command has 0 in that place. What hangs where is filled in afterwards.
+-- The commands and states of a design with numbers for names. Each check site has its number, from 1 in the order of
+-- the text: it is one more than the length of the walk's list up to it (`sap_shape`, `Sites`). Another command has 0
+-- in that place. What hangs where is filled in afterwards.
 use Rattle.std.specs.Prelude.{ℕ, ◌+◌, List, [], ◌∷◌, length, Some, None as NoWidth, if◌then◌else◌}
 use Rattle.sap_tree.specs.Syntax.{Expression, Expressions, literal, sized_literal, no_part, and_part, SimpleCommand, assign, write, set_tag, set_cell_tag, CommandBlock, command_block, ElseBlock, no_else, with_else, CommandList, no_command, and_command, StateTree, state_node, StateList, no_state, and_state, DesignTree}
 use Rattle.sap_tree.specs.Syntax as tree
@@ -14,7 +15,7 @@ use Rattle.sap_lattice.specs.Levels.{Levels}
 use Rattle.sap_resolved.specs.Worlds.{states_in}
 use Rattle.sap_resolved.specs.Terms.{entity_number, term_of, level_term}
 
--- the number of a command where the next site has the number k
+-- `site_number` is the number of a command if the next site has the number `k`.
 abbrev pub site_number : Surroundings → ℕ → SimpleCommand → ℕ
 site_number h k c = if is_site h.entities h.home.kind h.home.children c then k else 0
 
@@ -33,7 +34,7 @@ step_of ls h n (set_cell_tag place target index tag) =
 step_of ls h n (tree.go_to place target) = go_to n (entity_number h.entities target.name)
 step_of ls h n (tree.fall_to_child place) = fall_to_child n []
 
--- the numbers of constants
+-- `number_of` has the numbers of constants.
 abbrev pub number_of : Expression → ℕ
 number_of (literal spot n) = n
 number_of (sized_literal spot width n) = n
@@ -44,7 +45,7 @@ abbrev pub numbers_of : Expressions → List ℕ
 numbers_of no_part = []
 numbers_of (and_part e parts) = number_of e ∷ numbers_of parts
 
--- a part in which the next site has the number k
+-- In a part the next check site has the number `k`, and those behind it the numbers after `k`.
 abbrev mutual
   pub command_of : Levels → Surroundings → (k : ℕ) → tree.Command → Command
   command_of ls h k (tree.lone c) = lone (step_of ls h (site_number h k c) c)
@@ -61,7 +62,7 @@ abbrev mutual
   pub block_of : Levels → Surroundings → (k : ℕ) → CommandBlock → Block
   block_of ls h k (command_block cs after) = list_of ls h k cs
 
-  -- a missing `else` is an empty one
+  -- `a` missing `else` is an empty one.
   pub else_of : Levels → Surroundings → (k : ℕ) → ElseBlock → Block
   else_of ls h k no_else = end_block
   else_of ls h k (with_else b) = block_of ls h k b
@@ -74,7 +75,7 @@ abbrev mutual
   list_of ls h k no_command = end_block
   list_of ls h k (and_command c cs) = command_then (command_of ls h k c) (list_of ls h (k + length (command_sites h c)) cs)
 
--- and a state whose number is x
+-- In a state whose number is `x` the next check site has the number `k`.
 abbrev mutual
   pub state_of : Levels → List Entity → (k x : ℕ) → StateTree → State
   state_of ls es k x (state_node place name kind body children) =
@@ -85,6 +86,6 @@ abbrev mutual
   group_of ls es k x no_state = no_node
   group_of ls es k x (and_state s rest) = and_node (state_of ls es k x s) (group_of ls es (k + length (state_sites es s)) (x + states_in s) rest)
 
--- the states of a design
+-- `states_of` are the states of a design.
 abbrev pub states_of : Levels → DesignTree → Group
 states_of ls d = group_of ls (entities_of d) 1 (length d.declarations) d.states

@@ -42,11 +42,11 @@ two_of binary.Add = two.Add
 two_of binary.Sub = two.Sub
 two_of binary.Mul = two.Mul
 
--- a number that is there in every well-formed design
+-- This number is there in every well-formed design.
 abbrev pub known : Option ℕ → ℕ
 known n = unwrap_or n 0
 
--- filled with zeros in front, from one width to another
+-- A term is filled with zeros in front, from one width to another.
 abbrev pub widened : (from width : ℕ) → Term ℕ → Term ℕ
 widened from width t = if eqb from width then t else term.join (term.constant (width - from) 0) t
 
@@ -70,7 +70,7 @@ abbrev mutual
   term_of es (concat spot parts) asked = parts_of es parts
   term_of es (zero_extend spot e width) asked = widened (known (own (what_is es) e)) width (term_of es e None)
 
-  -- two parts or more, one in front of the others
+  -- Two parts or more stand one in front of the others.
   pub parts_of : List Entity → Expressions → Term ℕ
   parts_of es no_part = term.constant 0 0
   parts_of es (and_part e no_part) = term_of es e None

@@ -13,7 +13,7 @@ use Rattle.sap_lattice.specs.Levels.{Levels, level_named, order_of}
 use Rattle.sap_meaning.specs.Program.{World, Entity}
 use Rattle.sap_meaning.specs.Program as program
 
--- the number of a level's name; one behind the last for a name of none
+-- `level_number` is the number of a level's name, and the one behind the last for a name of none.
 abbrev pub level_number : Levels → Mention → ℕ
 level_number ls m = unwrap_or (level_named ls.names m.name) (length ls.names)
 
@@ -27,12 +27,12 @@ abbrev pub authority_level : Levels → Option Under → ℕ
 authority_level ls None = (order_of ls).bottom
 authority_level ls (Some under) = level_number ls under.level
 
--- bottom where it isn't written
+-- The authority is the bottom if it isn't written.
 abbrev pub authority_of : Levels → Kind → ℕ
 authority_of ls (Dynamic place) = (order_of ls).bottom
 authority_of ls (Enforced level under) = authority_level ls under
 
--- a register starts at its written number, else at 0
+-- `a` register starts at its written number, else at 0.
 abbrev pub initial_of : Option Numeral → ℕ
 initial_of None = 0
 initial_of (Some n) = n.value
@@ -69,7 +69,7 @@ abbrev pub all_declared : Levels → List Decl → List Entity
 all_declared ls [] = []
 all_declared ls (d ∷ ds) = declared ls d ∷ all_declared ls ds
 
--- how many states there are in a state, itself included, and in a group
+-- So many states are in a state, itself included, and in a group.
 abbrev mutual
   pub states_in : StateTree → ℕ
   states_in (state_node place name kind body children) = 1 + states_below children
@@ -78,12 +78,13 @@ abbrev mutual
   states_below no_state = 0
   states_below (and_state s rest) = states_in s + states_below rest
 
--- the length of a group
+-- `group_length` is the length of a group.
 abbrev pub group_length : StateList → ℕ
 group_length no_state = 0
 group_length (and_state s rest) = 1 + group_length rest
 
--- The states of a group, the first of them with this place in the group and this number; a state stands before its children.
+-- The states of a group, the first of them with this place in the group and this number; a state stands before its
+-- children.
 abbrev mutual
   pub state_entities : Levels → (place number : ℕ) → StateTree → List Entity
   state_entities ls n x (state_node place name kind body children) =
@@ -101,7 +102,7 @@ abbrev mutual
   group_entities ls n x no_state = []
   group_entities ls n x (and_state s rest) = state_entities ls n x s ++ group_entities ls (n + 1) (x + states_in s) rest
 
--- the number of children of each state, in the order of the text
+-- Each state has this number of children, in the order of the text.
 abbrev mutual
   pub state_children : StateTree → List ℕ
   state_children (state_node place name kind body children) = group_length children ∷ group_children children

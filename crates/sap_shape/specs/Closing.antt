@@ -17,11 +17,11 @@ is_transfer (set_cell_tag place target index tag) = false
 is_transfer (go_to place target) = true
 is_transfer (fall_to_child place) = true
 
--- a transfer that doesn't stand last: E10 at its first token
+-- A transfer that doesn't stand last has E10 at its first token.
 abbrev pub transfer_faults : SimpleCommand → List Fault
 transfer_faults k = fault_if (is_transfer k) E10 (place_of k)
 
--- of a `then`: where its command is a transfer, E10 stands at the `then`, and the command has no other; else it is the blocks that count
+-- Of a `then` whose command is a transfer, E10 is at the `then`, and the command has no other; else its blocks count.
 abbrev pub then_faults : SimpleCommand → (place : Place) → (blocks : List Fault) → List Fault
 then_faults k place blocks = if is_transfer k then fault_if true E10 place else blocks
 
@@ -53,11 +53,11 @@ open_arms_faults arms = folded_in_arms [] ◌++◌ own_open arms
 abbrev pub open_list_faults : CommandList → List Fault
 open_list_faults list = folded_in_list [] ◌++◌ own_open list
 
--- the last command of a list that must close; `after` is the place of the token after the list
+-- This is the last command of a list that must close; `after` is the place of the token after the list.
 abbrev pub last_simple_faults : SimpleCommand → (after : Place) → List Fault
 last_simple_faults k after = fault_if (not (is_transfer k)) E10 after
 
--- the handler of the last command: that of a transfer must close, another must be open
+-- The handler of a last command that is a transfer must close; another must be open.
 abbrev pub last_handler_faults : SimpleCommand → (opened closing : List Fault) → List Fault
 last_handler_faults k opened closing = if is_transfer k then closing else opened
 
@@ -77,7 +77,7 @@ abbrev mutual
   last_faults (try_then k place accepted refused) after = then_faults k place (closing_faults accepted ++ closing_faults refused)
   last_faults (case_of place e arms) after = closing_arms_faults arms
 
-  -- without `else` the fault is at the `if`
+  -- Without `else` the fault is at the `if`.
   pub closing_else_faults : ElseBlock → Place → List Fault
   closing_else_faults no_else place = fault_if true E10 place
   closing_else_faults (with_else b) place = closing_faults b
@@ -86,7 +86,7 @@ abbrev mutual
   closing_arms_faults (last_arm b) = closing_faults b
   closing_arms_faults (and_arm constants b arms) = closing_faults b ++ closing_arms_faults arms
 
-  -- a list that must close: every command but the last must be open
+  -- Of a list that must close every command but the last must be open.
   pub closing_faults : CommandBlock → List Fault
   closing_faults (command_block cs after) = closing_list_faults cs after
 

@@ -14,8 +14,9 @@ use Rattle.sap_names.specs.declared.kind.Code.TheVariants.{E14}
 abbrev pub Path : Type 0
 Path = List SimpleCommand
 
--- Through a command: k, and for `k otherwise { h }` also k and then h, where k is refused; for an `if` a path through either branch; for
--- `k then { a } otherwise { b }` k and then a, or k and then b; for a `case` a path through any one of its blocks.
+-- Through a command: k, and for `k otherwise { h }` also k and then h, where k is refused; for an `if` a path through
+-- either branch; for `k then { a } otherwise { b }` k and then a, or k and then b; for a `case` a path through any
+-- one of its blocks.
 abbrev mutual
   pub Through : Command → Path → Type 0
   Through (lone k) path = path ≡ k ∷ []
@@ -36,7 +37,7 @@ abbrev mutual
   ThroughArms (last_arm b) path = ThroughBlock b path
   ThroughArms (and_arm constants b arms) path = ThroughBlock b path ⊎ ThroughArms arms path
 
-  -- one command after another
+  -- A path leads through one command after another.
   pub ThroughList : CommandList → Path → Type 0
   ThroughList no_command path = path ≡ []
   ThroughList (and_command c cs) path = (first : Path) × (rest : Path) × Through c first × ThroughList cs rest × (path ≡ first ++ rest)
@@ -50,8 +51,8 @@ IsFall (set_cell_tag place target index tag) = ⊥
 IsFall (go_to place target) = ⊥
 IsFall (fall_to_child place) = Unit {0}
 
--- Up to a `fall` that enters a child. In `fall otherwise { h }` it is this one, or it is refused, has entered no child, and the path goes
--- on up to a `fall` in h. With `then` it goes on up to a `fall` in either block.
+-- Up to a `fall` that enters a child. In `fall otherwise { h }` it is this one, or it is refused, has entered no
+-- child, and the path goes on up to a `fall` in h. With `then` it goes on up to a `fall` in either block.
 abbrev mutual
   pub UpToFall : Command → Path → Type 0
   UpToFall (lone k) path = IsFall k × (path ≡ k ∷ [])
@@ -74,7 +75,7 @@ abbrev mutual
   UpToFallArms (last_arm b) path = UpToFallBlock b path
   UpToFallArms (and_arm constants b arms) path = UpToFallBlock b path ⊎ UpToFallArms arms path
 
-  -- in the first command, or through it and then in one of the others
+  -- The path ends in the first command, or leads through it and ends in one of the others.
   pub UpToFallList : CommandList → Path → Type 0
   UpToFallList no_command path = ⊥
   UpToFallList (and_command c cs) path =
@@ -95,7 +96,7 @@ abbrev mutual
 abbrev pub IsPath : DesignTree → Path → Type 0
 IsPath d path = FromAny d.states path
 
--- a write or a `setTag` of a cell of this memory
+-- The command is a write or a `setTag` of a cell of this memory.
 abbrev pub IsOfMemory : SimpleCommand → List ℕ → Type 0
 IsOfMemory (assign target e) memory = ⊥
 IsOfMemory (write target index e) memory = target.name ≡ memory
@@ -115,7 +116,7 @@ pub record WritesAgain (d : DesignTree) (again : SimpleCommand) : Type 0 where
   pub one : IsOfMemory first memory
   pub other : IsOfMemory again memory
 
--- the place of a command's first token
+-- `place_of` is the place of a command's first token.
 abbrev pub place_of : SimpleCommand → Place
 place_of (assign target e) = target.place
 place_of (write target index e) = target.place

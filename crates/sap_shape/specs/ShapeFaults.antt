@@ -15,7 +15,7 @@ use Rattle.sap_shape.specs.Sites.{is_site, is_dynamic}
 use Rattle.sap_names.specs.Fault.{StandsIn, Before}
 use Rattle.sap_shape.specs.Paths.{PathFault}
 
--- where a body stands: its state, the group that the state is of, and the names of the states above it
+-- A body stands in its state, with the group that the state is of, and the names of the states above it.
 pub record Body : Type 0 where
   pub home : Home
   pub group : StateList
@@ -30,7 +30,7 @@ abbrev pub is_among : StateList → List ℕ → Bool
 is_among no_state name = false
 is_among (and_state s rest) name = bytes_eq (name_of s) name || is_among rest name
 
--- in this state or below it
+-- The name is that of this state or of one below it.
 abbrev mutual
   pub is_within : StateTree → List ℕ → Bool
   is_within (state_node place own kind body children) name = bytes_eq own.name name || is_in_group children name
@@ -48,11 +48,12 @@ abbrev pub is_leaf : StateList → Bool
 is_leaf no_state = true
 is_leaf (and_state s rest) = false
 
--- the state of a body, an ancestor of it, or a descendant
+-- The name is that of the body's state, of an ancestor of it, or of a descendant.
 abbrev pub is_comparable : Body → List ℕ → Bool
 is_comparable at name = bytes_eq at.home.name name || is_in at.above name || is_in_group at.home.children name
 
--- E11 a target of a `goto` in another group; E12 a `fall` in a leaf; E16 a `setTag` of a dynamic entity; E17 a `setTag` of a comparable state
+-- E11 is a target of a `goto` in another group, E12 a `fall` in a leaf, E16 a `setTag` of a dynamic entity, E17 a
+-- `setTag` of a comparable state.
 abbrev pub simple_shape : List Entity → Body → SimpleCommand → List Fault
 simple_shape es at (assign target e) = []
 simple_shape es at (write target index e) = []
@@ -62,12 +63,13 @@ simple_shape es at (set_cell_tag place target index tag) = fault_if (is_dynamic 
 simple_shape es at (go_to place target) = fault_if (not (is_among at.group target.name)) E11 target.place
 simple_shape es at (fall_to_child place) = fault_if (is_leaf at.home.children) E12 place
 
--- A command with `then`: E15 stands at the `then` where the command can't be refused. The `then` of a transfer has E10, and no E15.
+-- A command with `then`: E15 stands at the `then` where the command can't be refused. The `then` of a transfer has
+-- E10, and no E15.
 abbrev pub then_shape : List Entity → Body → SimpleCommand → Place → List Fault
 then_shape es at k place =
     simple_shape es at k ++ fault_if (not (is_transfer k || is_site es at.home.kind at.home.children k)) E15 place
 
--- what a command has where its blocks have `below`; E15 at an `otherwise`: a handler that can never run
+-- This is what a command has if its blocks have `below`; E15 is at an `otherwise` whose handler can never run.
 abbrev pub own_shape : List Entity → Body → Command → (below : List Fault) → List Fault
 own_shape es at (lone k) below = simple_shape es at k
 own_shape es at (try k place handler) below = simple_shape es at k ++ fault_if (not (is_site es at.home.kind at.home.children k)) E15 place ++ below
@@ -95,7 +97,7 @@ arms_shape es at arms = folded_in_arms [] ◌++◌ (own_shape es at) arms
 abbrev pub list_shape : List Entity → Body → CommandList → List Fault
 list_shape es at list = folded_in_list [] ◌++◌ (own_shape es at) list
 
--- a state of a group, and a group, with the states above
+-- These are the faults of a state of a group, and of a group, with the states above.
 abbrev mutual
   pub state_shape : List Entity → (group : StateList) → (above : List (List ℕ)) → StateTree → List Fault
   state_shape es group above (state_node place name kind body children) =
@@ -111,7 +113,7 @@ abbrev mutual
 abbrev pub IsShapeFault : DesignTree → Fault → Type 0
 IsShapeFault d f = StandsIn f (states_shape (entities_of d) d.states [] d.states) ⊎ PathFault d f
 
--- none stands anywhere
+-- No fault of shape stands anywhere.
 abbrev pub HasShape : DesignTree → Type 0
 HasShape d = (f : Fault) → IsShapeFault d f → ⊥
 

@@ -1,5 +1,6 @@
--- Check sites: the commands that may be refused, in the order of their first tokens. One walk over the tree finds them: the check, the report and the trace
--- tell of its list (`sap_check`, `Sites`), and the commands of a design's program are numbered by its length (`sap_resolved`, `Resolve`).
+-- Check sites: the commands that may be refused, in the order of their first tokens. One walk over the tree finds
+-- them: the check, the report and the trace tell of its list (`sap_check`, `Sites`), and the commands of a design's
+-- program are numbered by its length (`sap_resolved`, `Resolve`).
 use Rattle.std.specs.Prelude.{List, [], ◌∷◌, ◌++◌, Bool, true, false, not, ◌||◌, ℕ, if◌then◌else◌}
 use Rattle.sap_tree.specs.declared.syntax.Kind.{Kind}
 use Rattle.sap_tree.specs.Syntax.{SimpleCommand, assign, write, set_tag, set_cell_tag, go_to, fall_to_child, Command, Arms, CommandBlock, ElseBlock, CommandList, StateTree, state_node, StateList, no_state, and_state, DesignTree}
@@ -8,7 +9,7 @@ use Rattle.sap_tree.specs.Touches.{Home, home_of, is_dynamic_kind}
 use Rattle.sap_names.specs.declared.entity.Entity.{Entity}
 use Rattle.sap_names.specs.Entities.{find, enforced_of, dynamic_of, entities_of}
 
--- what the name stands for is enforced; is dynamic
+-- What the name stands for is enforced, or is dynamic.
 abbrev pub is_enforced : List Entity → List ℕ → Bool
 is_enforced es name = enforced_of (find es name)
 
@@ -16,7 +17,7 @@ is_enforced es name = enforced_of (find es name)
 abbrev pub is_dynamic : List Entity → List ℕ → Bool
 is_dynamic es name = dynamic_of (find es name)
 
--- the kind of a state
+-- `kind_of_state` is the kind of a state.
 abbrev pub kind_of_state : StateTree → Kind
 kind_of_state (state_node place name kind body children) = kind
 
@@ -25,7 +26,7 @@ abbrev pub any_enforced : StateList → Bool
 any_enforced no_state = false
 any_enforced (and_state s rest) = not (is_dynamic_kind (kind_of_state s)) || any_enforced rest
 
--- in the body of a state of this kind with these children
+-- The command is a check site in the body of a state of this kind with these children.
 abbrev pub is_site : List Entity → Kind → StateList → SimpleCommand → Bool
 is_site es here children (assign target e) = is_enforced es target.name
 is_site es here children (write target index e) = is_enforced es target.name
@@ -34,7 +35,7 @@ is_site es here children (set_cell_tag place target index tag) = true
 is_site es here children (go_to place target) = not (is_dynamic_kind here) || is_enforced es target.name
 is_site es here children (fall_to_child place) = any_enforced children
 
--- where a command stands: the entities of its design, and the state in whose body it is
+-- A command stands among the entities of its design, in the body of a state.
 pub record Surroundings : Type 0 where
   pub entities : List Entity
   pub home : Home
@@ -68,7 +69,7 @@ arms_sites h arms = gathered_in_arms [] ◌++◌ (simple_sites h) arms
 abbrev pub list_sites : Surroundings → CommandList → List CheckSite
 list_sites h list = gathered_in_list [] ◌++◌ (simple_sites h) list
 
--- those of a body stand before those of the children
+-- Those of a body stand before those of the children.
 abbrev pub body_sites : List Entity → StateTree → List CheckSite
 body_sites es s = block_sites (record { entities = es; home = home_of s }) (body_of s)
 

@@ -7,7 +7,7 @@ use Rattle.sap_names.specs.declared.fault.Fault.{Fault}
 use Rattle.sap_names.specs.NameFaults.{design_name_faults}
 use Rattle.sap_shape.specs.ShapeFaults.{HasShape, IsFirstShapeFault}
 
--- no fault of names and widths, E3 to E9, and none of shape, E10 to E17, stands anywhere in the design
+-- No fault of names and widths, E3 to E9, and none of shape, E10 to E17, stands anywhere in the design.
 pub record WellFormed (ls : Levels) (d : DesignTree) : Type 0 where
   pub names : design_name_faults ls.names (order_of ls).le d ≡ []
   pub shape : HasShape d

@@ -4,24 +4,24 @@ use Rattle.std.specs.Char.{is_ascii_alphabetic, is_ascii_alphanumeric}
 use Rattle.std.specs.List.{list_all, list_any}
 use Rattle.std.specs.Str.{byte, bytes_eq}
 
--- a letter or `_`
+-- A name begins with a letter or `_`.
 abbrev pub is_initial : ℕ → Bool
 is_initial c = is_ascii_alphabetic c || c == byte "_"
 
--- a letter, a digit or `_`
+-- A name goes on with letters, digits and `_`.
 abbrev pub is_inner : ℕ → Bool
 is_inner c = is_ascii_alphanumeric c || c == byte "_"
 
--- a letter or `_`, and then letters, digits and `_`
+-- A word is a letter or `_`, and then letters, digits and `_`.
 abbrev pub is_word : List ℕ → Bool
 is_word [] = false
 is_word (c ∷ cs) = is_initial c && list_all is_inner cs
 
--- the name stands on the list
+-- The name stands on the list.
 abbrev pub is_among : List ℕ → List (List ℕ) → Bool
 is_among x ys = list_any (bytes_eq x) ys
 
--- the words that no name of a design is, in each version of the language
+-- No name of a design is one of these words, in any version of the language.
 abbrev pub design_keywords : List (List ℕ)
 design_keywords =
     codes "input"

@@ -15,19 +15,19 @@ line text = text ++ line_end
 abbrev pub place_text : Place → List ℕ
 place_text place = decimal place.line ++ codes ":" ++ decimal place.column
 
--- the place behind a byte
+-- `next_place` is the place behind a byte.
 abbrev pub next_place : Place → ℕ → Place
 next_place place b = if b == 10 then record { line = place.line + 1; column = 1 } else record { line = place.line; column = place.column + 1 }
 
--- the place behind these bytes
+-- `place_after` is the place behind these bytes.
 abbrev pub place_after : Place → List ℕ → Place
 place_after place [] = place
 place_after place (b ∷ bytes) = place_after (next_place place b) bytes
 
--- where a text begins
+-- A text begins in line 1, at column 1.
 abbrev pub first_place : Place
 first_place = record { line = 1; column = 1 }
 
--- the place of the byte behind the first n bytes of a text
+-- `place_at` is the place of the byte behind the first n bytes of a text.
 unfoldable pub place_at : List ℕ → ℕ → Place
 place_at text n = place_after first_place (take n text)

@@ -8,17 +8,17 @@ use Rattle.sap_text.specs.Names.{is_inner}
 use Rattle.sap_text.specs.declared.scan.Class.TheVariants as c
 use Rattle.sap_text.specs.declared.scan.Class.{Class}
 
--- classes of bytes: those within a name, digits of either base, and all but the end of a line
+-- The classes of bytes are those within a name, digits of either base, and all but the end of a line.
 abbrev pub is_in : Class → ℕ → Bool
 is_in c.Inner b = is_inner b
 is_in c.Decimal b = is_ascii_digit b
 is_in c.Hexadecimal b = is_ascii_hexdigit b
 is_in c.Comment b = is_in_line b
 
--- how many bytes of a class stand at the front
+-- `run` says how many bytes of a class stand at the front.
 abbrev pub run : Class → List ℕ → ℕ
 run class bytes = prefix_len (is_in class) bytes
 
--- the number that digits of a base spell, if it is below 2^64
+-- `number_of` is the number that digits of a base spell, if it is below 2^64.
 abbrev pub number_of : (base : ℕ) → List ℕ → Option ℕ
 number_of base digits = if nat_lt (digits_value base digits) (2 ^ 64) then Some (digits_value base digits) else None

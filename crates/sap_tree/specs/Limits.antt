@@ -1,7 +1,7 @@
 -- The limits of a design.
 use Rattle.std.specs.Prelude.{ℕ}
 
--- bytes of a name
+-- A name has at most this many bytes.
 abbrev pub most_name_bytes : ℕ
 most_name_bytes = 40
 
@@ -21,23 +21,23 @@ most_memories = 16
 abbrev pub most_states : ℕ
 most_states = 256
 
--- levels of states, the top-level states being one
+-- States are nested in at most this many levels, the top-level states being one.
 abbrev pub most_nesting : ℕ
 most_nesting = 16
 
--- commands of all bodies, those in blocks counted
+-- All bodies together have at most this many commands, those in blocks counted.
 abbrev pub most_commands : ℕ
 most_commands = 4096
 
--- levels of commands, those in no block being one
+-- Commands are nested in at most this many levels, those in no block being one.
 abbrev pub most_blocks : ℕ
 most_blocks = 64
 
--- brackets that are open at once in an expression that stands in no other
+-- At most this many brackets are open at once in an expression that stands in no other.
 abbrev pub most_brackets : ℕ
 most_brackets = 64
 
--- tokens of an expression that stands in no other
+-- An expression that stands in no other has at most this many tokens.
 abbrev pub most_tokens : ℕ
 most_tokens = 256
 

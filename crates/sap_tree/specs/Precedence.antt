@@ -4,7 +4,7 @@ use Rattle.sap_tree.specs.Syntax.{Expression, literal, sized_literal, variable, 
 use Rattle.sap_tree.specs.declared.syntax.BinaryOperator.TheVariants as b
 use Rattle.sap_tree.specs.declared.syntax.BinaryOperator.{BinaryOperator}
 
--- the loosest is `?:`, with 0
+-- The operator `?:` binds most loosely, with 0.
 abbrev pub precedence : BinaryOperator → ℕ
 precedence b.Or = 1
 precedence b.Xor = 2

@@ -16,7 +16,7 @@ spot_of (slice spot x high low) = spot
 spot_of (concat spot parts) = spot
 spot_of (zero_extend spot x w) = spot
 
--- the place of its first token
+-- `first_of` is the place of an expression's first token.
 unfoldable pub first_of : Expression → Place
 unfolding spot_of
 first_of x = (spot_of x).first
@@ -25,7 +25,7 @@ first_of x = (spot_of x).first
 abbrev pub from_place : Place → Spot → Spot
 from_place place spot = record { first = place; at = spot.at }
 
--- the expression in parentheses that begin at this place
+-- `enclosed` is the expression in parentheses that begin at this place.
 unfoldable pub enclosed : Place → Expression → Expression
 enclosed place (literal spot n) = literal (from_place place spot) n
 enclosed place (sized_literal spot w n) = sized_literal (from_place place spot) w n

@@ -44,7 +44,8 @@ mutual
     no_tag : TagExpressions
     and_tag : TagExpression → TagExpressions → TagExpressions
 
--- commands that can have a handler; the places are those of the first words, and `assign` and `write` begin with the name
+-- Simple commands can have a handler. The places are those of the first words, and `assign` and `write` begin with
+-- the name.
 pub data SimpleCommand : Type 0 where
   assign : (register : Mention) → Expression → SimpleCommand
   write : (memory : Mention) → (index value : Expression) → SimpleCommand
@@ -63,16 +64,16 @@ mutual
     try_then : SimpleCommand → (then : Place) → (accepted : CommandBlock) → (refused : CommandBlock) → Command
     case_of : Place → (number : Expression) → Arms → Command
 
-  -- commands, and the place of the token after them
+  -- A block has commands, and the place of the token after them.
   pub data CommandBlock : Type 0 where
     command_block : CommandList → (after : Place) → CommandBlock
 
-  -- the block after `else`, where one is written
+  -- The block after `else` may be missing.
   pub data ElseBlock : Type 0 where
     no_else : ElseBlock
     with_else : CommandBlock → ElseBlock
 
-  -- the arms of a `case`, each with its constants, and the block after `else`
+  -- The arms of a `case` have their constants each, and the block after `else` comes last.
   pub data Arms : Type 0 where
     last_arm : CommandBlock → Arms
     and_arm : (constants : Expressions) → CommandBlock → Arms → Arms
@@ -93,7 +94,7 @@ mutual
     no_state : StateList
     and_state : StateTree → StateList → StateList
 
--- the version of the language, and the declarations and the top-level states in the order of the text
+-- A design has the version of the language, and its declarations and top-level states in the order of the text.
 pub record DesignTree : Type 0 where
   pub version : Version
   pub declarations : List Decl

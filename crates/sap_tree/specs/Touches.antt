@@ -11,7 +11,7 @@ use Rattle.sap_tree.specs.declared.syntax.Kind.{Kind}
 
 -- dynamic entities
 
--- whether a kind is dynamic
+-- `is_dynamic_kind` says whether a kind is dynamic.
 abbrev pub is_dynamic_kind : Kind → Bool
 is_dynamic_kind (k.Dynamic place) = true
 is_dynamic_kind (k.Enforced level authority) = false
@@ -70,7 +70,7 @@ state_assigns s x = gathered_from false ◌||◌ (λ s. block_assigns (body_of s
 unfoldable pub states_assign : StateList → List ℕ → Bool
 states_assign states x = gathered_from_list false ◌||◌ (λ s. block_assigns (body_of s) x) states
 
--- the state in whose body a command stands
+-- A command stands in the body of a state, which is its home.
 pub record Home : Type 0 where
   pub name : List ℕ
   pub kind : Kind

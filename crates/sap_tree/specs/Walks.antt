@@ -1,4 +1,5 @@
--- Walks over a design's commands. A definition that asks or gathers the same of all parts is a walk, and says what it asks or has of one.
+-- Walks over a design's commands. A definition that asks or gathers the same of all parts is a walk, and says what it
+-- asks or has of one.
 use Rattle.std.specs.Prelude.{ℕ, Bool, false, ◌||◌, Option, Some, None}
 use Rattle.sap_tree.specs.Syntax.{Expression, SimpleCommand, Command, lone, try, if_else, try_then, case_of, Arms, last_arm, and_arm, CommandBlock, command_block, ElseBlock, no_else, with_else, CommandList, no_command, and_command, StateTree, state_node, StateList, no_state, and_state}
 
@@ -29,7 +30,8 @@ module _ (P : SimpleCommand → Type 0) (Q : (asked : Option ℕ) → Expression
     EveryInList no_command = Unit {0}
     EveryInList (and_command c list) = Every c × EveryInList list
 
--- A fold: `own c below` is what a command has where its blocks have `below`, which is what their commands have, joined in the order of the text, or `none`.
+-- A fold: `own c below` is what a command has where its blocks have `below`, which is what their commands have,
+-- joined in the order of the text, or `none`.
 module _ {A : Type 0} (none : A) (join : A → A → A) (own : Command → (below : A) → A) where
   -- A value made from a command from below: `own` of the command and of what its blocks give, joined in order.
   abbrev mutual
@@ -55,7 +57,7 @@ module _ {A : Type 0} (none : A) (join : A → A → A) (own : Command → (belo
     folded_in_list no_command = none
     folded_in_list (and_command c list) = join (folded c) (folded_in_list list)
 
--- what f has of each simple command, joined in the order of the text
+-- What `f` has of each simple command is joined in the order of the text.
 module _ {A : Type 0} (none : A) (join : A → A → A) (f : SimpleCommand → A) where
   -- What a command's own step gives, joined with what its blocks give.
   abbrev pub with_simple : Command → (below : A) → A
@@ -111,7 +113,7 @@ module _ (p : SimpleCommand → Bool) where
 abbrev pub body_of : StateTree → CommandBlock
 body_of (state_node place name kind body children) = body
 
--- a fold over states: `own s below` is what a state has where its children have `below`
+-- This is a fold over states: `own s below` is what a state has if its children have `below`.
 module _ {A : Type 0} (none : A) (join : A → A → A) (own : StateTree → (below : A) → A) where
   -- A value made from a state from below: `own` of the state and of what its children give, joined in order.
   abbrev mutual
@@ -122,7 +124,7 @@ module _ {A : Type 0} (none : A) (join : A → A → A) (own : StateTree → (be
     folded_from_list no_state = none
     folded_from_list (and_state s states) = join (folded_from s) (folded_from_list states)
 
--- what f has of each state, joined, a state before its children
+-- What `f` has of each state is joined, a state before its children.
 module _ {A : Type 0} (none : A) (join : A → A → A) (f : StateTree → A) where
   -- What f gives for a state and all states below it, joined in order.
   abbrev pub gathered_from : StateTree → A

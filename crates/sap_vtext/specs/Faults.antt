@@ -9,8 +9,8 @@ use Rattle.sap_vtext.specs.Widths.{constant_fits, shape_width, operand_width, pa
 
 -- What an item uses.
 
--- how a name is used: as an operand or sliced; indexed on a right side; as the target of an `assign`, of a plain `initial` or `always`, or of one
--- with an index
+-- A name is used as an operand or sliced; indexed on a right side; or as the target of an item, with an index or
+-- without.
 pub data Manner : Type 0 where
   as_value as_cell as_wire as_register as_memory : Manner
 
@@ -88,7 +88,7 @@ ranges (item.register range x) = range ∷ []
 ranges (item.memory range x last) = range ∷ []
 ranges _ = []
 
--- the memories that are indexed, each with its index operand
+-- `right_indexes` has the memories that are indexed, each with its index operand.
 abbrev pub right_indexes : Right → List (Mention × Operand)
 right_indexes (item.cell m index) = (m, index) ∷ []
 right_indexes _ = []
@@ -106,18 +106,18 @@ operand_place (item.constant c) = c.place
 
 -- The faults.
 
--- a power of two from 2 to 4096: a depth that an index has bits for
+-- A depth that an index has bits for is a power of two from 2 to 4096.
 abbrev pub HasIndex : ℕ → Type 0
 HasIndex depth = (b : ℕ) × IsDepth depth b
 
--- a wire, a register or a memory
+-- Wires, registers and memories can be set.
 abbrev pub is_settable : Option Shape → Bool
 is_settable (Some (wire width)) = true
 is_settable (Some (register width)) = true
 is_settable (Some (memory width depth)) = true
 is_settable _ = false
 
--- a wire needs its `assign`, a register or memory both its `initial` and its `always`
+-- `a` wire needs its `assign`, a register or memory both its `initial` and its `always`.
 abbrev pub needs : Shape → Setting → Bool
 needs (wire width) assign = true
 needs (register width) initial = true
@@ -126,7 +126,8 @@ needs (memory width depth) initial = true
 needs (memory width depth) always = true
 needs _ _ = false
 
--- a declared name that is declared before; a second `integer`; the name in a second `assign`, `initial` or `always` of one wire, register or memory
+-- V3 is at a declared name that is declared before; a second `integer`; the name in a second `assign`, `initial` or
+-- `always` of one wire, register or memory.
 pub data V3 (f : File) : ℕ → Type 0 where
   declared_before : (before after : List Declaration) (d : Declaration) → declarations f.ports f.items ≡ before ++ d ∷ after
       → IsSome (shape_in before d.name.name) → V3 f d.name.place
@@ -134,7 +135,8 @@ pub data V3 (f : File) : ℕ → Type 0 where
   set_before : {above : Above} {x : Item} (t : Target) → IsItemOf f above x → target_of x ≡ Some t
       → is_settable (shape_above above t.name.name) ≡ true → is_set t.setting t.name.name above.items ≡ true → V3 f t.name.place
 
--- a used name that isn't declared before; an operand that is a wire not assigned before; the first `i` of a `for` without `integer i` before
+-- V4 is at a used name that isn't declared before; an operand that is a wire not assigned before; the first `i` of a
+-- `for` without `integer i` before.
 pub data V4 (f : File) : ℕ → Type 0 where
   undeclared : {above : Above} {x : Item} (u : Use) → IsItemOf f above x → StandsIn u (uses x) → shape_above above u.name.name ≡ None → V4 f u.name.place
   unassigned : {above : Above} {x : Item} (u : Use) {width : ℕ} → IsItemOf f above x → StandsIn u (uses x) → u.manner ≡ as_value
@@ -142,8 +144,9 @@ pub data V4 (f : File) : ℕ → Type 0 where
   no_integer : {above : Above} {place : ℕ} {bound : Number} {x : Mention} {value : Constant} → IsItemOf f above (item.initial_cells place bound x value)
       → has_integer above.items ≡ false → V4 f place
 
--- a range's number over 63; a constant whose width isn't 1 to 64 or whose number doesn't fit; the target's name where two widths differ that have to
--- be equal, or where a `{}` is wider than 64; a slice's name where it is out of range
+-- V5 is at a range's number over 63; a constant whose width isn't 1 to 64 or whose number doesn't fit; the target's
+-- name where two widths differ that have to be equal, or where a `{}` is wider than 64; a slice's name where it is
+-- out of range.
 pub data V5 (f : File) : ℕ → Type 0 where
   wide_port : (p : Port) → StandsIn p f.ports → 63 < p.range.value → V5 f p.range.place
   wide_range : {above : Above} {x : Item} (n : Number) → IsItemOf f above x → StandsIn n (ranges x) → 63 < n.value → V5 f n.place
@@ -155,13 +158,14 @@ pub data V5 (f : File) : ℕ → Type 0 where
   out_of_range : {above : Above} {x y : Mention} {high low : ℕ} {shape : Shape} → IsItemOf f above (item.assign x (item.slice y high low))
       → shape_above above y.name ≡ Some shape → (low ≤ high → high < shape_width shape → ⊥) → V5 f y.place
 
--- the declared name of a wire without `assign`, or of a register or memory without `initial` or without `always`
+-- V6 is at the declared name of a wire without `assign`, or of a register or memory without `initial` or without
+-- `always`.
 pub data V6 (f : File) : ℕ → Type 0 where
   unset : (d : Declaration) (s : Setting) → StandsIn d (declarations f.ports f.items) → needs d.shape s ≡ true → is_set s d.name.name f.items ≡ false
       → V6 f d.name.place
 
--- a memory's number whose depth isn't a power of two from 2 to 4096; the number of a `for` that isn't the memory's depth; an index operand whose
--- width isn't the memory's index width; a declared name used as another kind
+-- V7 is at a memory's number whose depth isn't a power of two from 2 to 4096; the number of a `for` that isn't the
+-- memory's depth; an index operand whose width isn't the memory's index width; a declared name used as another kind.
 pub data V7 (f : File) : ℕ → Type 0 where
   no_depth : {above : Above} {range last : Number} {x : Mention} → IsItemOf f above (item.memory range x last) → (HasIndex (last.value + 1) → ⊥)
       → V7 f last.place
@@ -173,7 +177,7 @@ pub data V7 (f : File) : ℕ → Type 0 where
   other_kind : {above : Above} {x : Item} (u : Use) {shape : Shape} → IsItemOf f above x → StandsIn u (uses x) → shape_above above u.name.name ≡ Some shape
       → suits u.manner shape ≡ false → V7 f u.name.place
 
--- none of V3 to V7 stands anywhere
+-- None of V3 to V7 stands anywhere.
 pub record IsFaultless (f : File) : Type 0 where
   pub v3 : (place : ℕ) → V3 f place → ⊥
   pub v4 : (place : ℕ) → V4 f place → ⊥

@@ -1,4 +1,5 @@
--- The module grammar: each rule relates tokens, what their front reads as, and the tokens behind it. One constructor a production.
+-- The module grammar: each rule relates tokens, what their front reads as, and the tokens behind it. One constructor
+-- a production.
 use Rattle.std.specs.Prelude.{ℕ, List, [], ◌∷◌}
 use Rattle.sap_bits.specs.declared.Op1.{Op1}
 use Rattle.sap_bits.specs.declared.Op1.TheVariants as unary
@@ -28,7 +29,7 @@ pub record IsNumber (ts : List Token) (n : Number) (r : List Token) : Type 0 whe
   pub digits : ℕ
   pub is : IsToken ts n.place (t.number n.value digits) r
 
--- a number that is written with one digit: `0` or `1`
+-- A number is written with one digit, `0` or `1`.
 pub record IsDigit (ts : List Token) (digit : ℕ) (r : List Token) : Type 0 where
   pub place : ℕ
   pub is : IsToken ts place (t.number digit 1) r
@@ -65,7 +66,7 @@ pub data IsOperand : List Token → Operand → List Token → Type 0 where
   name : {ts r : List Token} {n : Mention} → IsName ts n r → IsOperand ts (item.named n) r
   constant : {ts r : List Token} {c : Constant} → IsConstant ts c r → IsOperand ts (item.constant c) r
 
--- "[" NUM ":" "0" "]"
+-- The production is `"[" NUM ":" "0" "]"`.
 pub data IsRange : List Token → Number → List Token → Type 0 where
   range : {ts a b c d r : List Token} {n : Number} → IsSign ts t.open_bracket a → IsNumber a n b → IsSign b t.colon c → IsDigit c 0 d
       → IsSign d t.close_bracket r → IsRange ts n r
@@ -79,12 +80,12 @@ pub data IsPort : List Token → Port → List Token → Type 0 where
   output_wire : {ts a b c r : List Token} {n : Number} {x : Mention} → IsWord ts t.output_word a → IsWord a t.wire_word b → IsRange b n c → IsName c x r
       → IsPort ts (record { direction = item.output_wire; range = n; name = x }) r
 
--- ( "," port )*
+-- The production is `( "," port )*`.
 pub data ArePorts : List Token → List Port → List Token → Type 0 where
   no_port : {r : List Token} → ArePorts r [] r
   next_port : {ts a b r : List Token} {p : Port} {ps : List Port} → IsSign ts t.comma a → IsPort a p b → ArePorts b ps r → ArePorts ts (p ∷ ps) r
 
--- ( "," OPD )*
+-- The production is `( "," OPD )*`.
 pub data AreParts : List Token → List Operand → List Token → Type 0 where
   no_part : {r : List Token} → AreParts r [] r
   next_part : {ts a b r : List Token} {o : Operand} {os : List Operand} → IsSign ts t.comma a → IsOperand a o b → AreParts b os r
@@ -105,12 +106,13 @@ pub data IsRight : List Token → Right → List Token → Type 0 where
   cell : {ts a b c r : List Token} {m : Mention} {i : Operand} → IsName ts m a → IsSign a t.open_bracket b → IsOperand b i c
       → IsSign c t.close_bracket r → IsRight ts (item.cell m i) r
 
--- "always" "@" "(" "posedge" "clk" ")"
+-- The production is `"always" "@" "(" "posedge" "clk" ")"`.
 pub data IsClocked : List Token → List Token → Type 0 where
   clocked : {ts a b c d e r : List Token} → IsWord ts t.always_word a → IsSign a t.at b → IsSign b t.open_paren c → IsWord c t.posedge_word d
       → IsWord d t.clk_word e → IsSign e t.close_paren r → IsClocked ts r
 
--- "for" "(" "i" "=" "0" ";" "i" "<" NUM ";" "i" "=" "i" "+" "1" ")", with the place of the first `i` and the number
+-- The production is `"for" "(" "i" "=" "0" ";" "i" "<" NUM ";" "i" "=" "i" "+" "1" ")"`, with the place of the first
+-- `i` and the number.
 pub data IsLoop : List Token → ℕ → Number → List Token → Type 0 where
   loop : {ts a b c d e f g h i j k l m n o r : List Token} {place : ℕ} {bound : Number} → IsWord ts t.for_word a → IsSign a t.open_paren b
       → IsToken b place (t.word t.i_word) c → IsSign c t.is d → IsDigit d 0 e → IsSign e t.semicolon f

@@ -1,19 +1,20 @@
--- What the module grammar reads: a module's text without its layout. A place is the number of bytes of the text before it.
+-- What the module grammar reads: a module's text without its layout. A place is the number of bytes of the text
+-- before it.
 use Rattle.std.specs.Prelude.{ℕ, List}
 use Rattle.sap_bits.specs.declared.Op1.{Op1}
 use Rattle.sap_bits.specs.declared.Op2.{Op2}
 
--- a name where it stands
+-- A mention is a name where it stands.
 pub record Mention : Type 0 where
   pub place : ℕ
   pub name : List ℕ
 
--- a number where it stands
+-- A number is told where it stands.
 pub record Number : Type 0 where
   pub place : ℕ
   pub value : ℕ
 
--- a constant where it stands
+-- A constant is told where it stands.
 pub record Constant : Type 0 where
   pub place : ℕ
   pub width : ℕ
@@ -24,7 +25,7 @@ pub data Operand : Type 0 where
   named : Mention → Operand
   constant : Constant → Operand
 
--- the right side of an `assign`
+-- The right side of an `assign` has one of these forms.
 pub data Right : Type 0 where
   copy : Operand → Right
   one : Op1 → Operand → Right
@@ -38,15 +39,16 @@ pub data Right : Type 0 where
 pub data Direction : Type 0 where
   input output_register output_wire : Direction
 
--- a port, with the number of its range
+-- A port is told with the number of its range.
 pub record Port : Type 0 where
   pub direction : Direction
   pub range : Number
   pub name : Mention
 
--- An item: `wire [range:0] name`, `reg [range:0] name`, `reg [range:0] name [0:last]`, `integer i` with its first place, `assign name = right`,
--- `initial name = value`, the `for` of a memory's first contents with the place of its first `i`, its bound, the memory and the value,
--- `always name <= next`, and `always` of a memory with its condition, the memory, the index and the value.
+-- An item: `wire [range:0] name`, `reg [range:0] name`, `reg [range:0] name [0:last]`, `integer i` with its first
+-- place, `assign name = right`, `initial name = value`, the `for` of a memory's first contents with the place of its
+-- first `i`, its bound, the memory and the value, `always name <= next`, and `always` of a memory with its condition,
+-- the memory, the index and the value.
 pub data Item : Type 0 where
   wire : Number → Mention → Item
   register : Number → Mention → Item

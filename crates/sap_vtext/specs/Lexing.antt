@@ -59,13 +59,13 @@ sign_text bar = codes "|"
 sign_text caret = codes "^"
 sign_text tilde = codes "~"
 
--- the signs, those of two bytes first, so that the longest is found first
+-- The signs of two bytes stand first, so that the longest is found first.
 abbrev pub signs : List Sign
 signs =
     equal ∷ not_equal ∷ less_or_equal ∷ shift_left ∷ shift_right ∷ open_paren ∷ close_paren ∷ open_brace ∷ close_brace ∷ open_bracket ∷ close_bracket ∷ comma ∷ semicolon
     ∷ colon ∷ question ∷ at ∷ is ∷ less ∷ plus ∷ minus ∷ star ∷ ampersand ∷ bar ∷ caret ∷ tilde ∷ []
 
--- what stands at the front of a text, and how long it is: white space or a comment; a token; or neither
+-- At the front of a text stands white space or a comment, or a token, each with its length, or neither.
 pub data Front : Type 0 where
   blank : ℕ → Front
   token : Kind → ℕ → Front
@@ -76,7 +76,7 @@ abbrev pub word_or_name : Option Word → List ℕ → Kind
 word_or_name (Some w) bs = word w
 word_or_name None bs = name bs
 
--- the keyword that is written so, or else the name
+-- `kind_of_name` is the keyword that is written so, or else the name.
 abbrev pub kind_of_name : List ℕ → Kind
 kind_of_name bs = word_or_name (find (λ w. bytes_eq bs (word_text w)) words) bs
 
@@ -101,7 +101,7 @@ is_below_2_64 n = nat_lt n (2 ^ 64)
 abbrev pub number_front : List ℕ → Front
 number_front digits = if is_below_2_64 (digits_value 10 digits) then token (number (digits_value 10 digits) (length digits)) (length digits) else bad
 
--- the width's digits and the number's
+-- A constant has the width's digits and the number's.
 abbrev pub constant_front : List ℕ → List ℕ → Front
 constant_front width digits =
     if is_below_2_64 (digits_value 10 width) && is_below_2_64 (digits_value 10 digits)
@@ -112,7 +112,7 @@ constant_front width digits =
 abbrev pub digits_of_front : List ℕ → List ℕ
 digits_of_front bs = take_while is_ascii_digit bs
 
--- digits that don't begin with 0 are a constant's width where `'d` and a digit follow
+-- Digits that don't begin with 0 are a constant's width where `'d` and a digit follow.
 abbrev pub is_constant : List ℕ → List ℕ → Bool
 is_constant digits after = not (slice_index digits 0 == byte "0") && (starts_with nat_eq after (codes "'d") && is_ascii_digit (slice_index after 2))
 
@@ -130,7 +130,7 @@ front (b ∷ bs) =
     else (if is_ascii_digit b then digits_front (digits_of_front (b ∷ bs)) (drop (length (digits_of_front (b ∷ bs))) (b ∷ bs))
     else sign_front (b ∷ bs))))
 
--- the text behind the first `from` bytes is these tokens, with white space and comments between them
+-- The text behind the first `from` bytes is these tokens, with white space and comments between them.
 pub data Lexed : ℕ → List ℕ → List Token → Type 0 where
   end : {from : ℕ} → Lexed from [] []
   blank_first : {from : ℕ} {bs : List ℕ} {tokens : List Token} (len : ℕ) → front bs ≡ blank len → Lexed (from + len) (drop len bs) tokens

@@ -50,7 +50,7 @@ net_kind item.output_wire = kind.Wire
 abbrev pub net_port : item.Port → Port
 net_port p = record { name = p.name.name; kind = net_kind p.direction }
 
--- an input and its width
+-- An input has a name and a width.
 abbrev pub net_input : item.Direction → Name → ℕ → List Input
 net_input item.input x width = record { name = x; width = width } ∷ []
 net_input _ x width = []
@@ -64,7 +64,7 @@ abbrev pub declared_width : Option Shape → ℕ
 declared_width (Some shape) = shape_width shape
 declared_width None = 0
 
--- each `assign` is a wire
+-- Each `assign` is a wire.
 abbrev pub net_wires : List Declaration → item.Item → List Wire
 net_wires ds (item.assign x right) = record { name = x.name; width = declared_width (shape_in ds x.name); right = net_right right } ∷ []
 net_wires ds _ = []
@@ -74,7 +74,7 @@ abbrev pub first_of : {A : Type 0} → Option A → Option A → Option A
 first_of (Some a) later = Some a
 first_of None later = later
 
--- what the first of the items that has it gives
+-- `first_given` is what the first of the items that has it gives.
 abbrev pub first_given : {A : Type 0} → (item.Item → Option A) → List item.Item → Option A
 first_given f [] = None
 first_given f (x ∷ xs) = first_of (f x) (first_given f xs)
@@ -94,7 +94,7 @@ abbrev pub next_operand : Name → item.Item → Option Operand
 next_operand n (item.always x next) = when x.name n (net_operand next)
 next_operand n _ = None
 
--- what an `always` of a memory writes: the condition, the index and the value
+-- An `always` of a memory writes by a condition, an index and a value.
 pub record Write : Type 0 where
   pub enable : Operand
   pub index : Operand
@@ -150,7 +150,8 @@ netlist_of f =
       memories = flat_map (λ d. shape_memories d.name.name d.shape f.items) ds;
     }
 
--- the text is a module: the bytes are tokens, the tokens are a file, and none of the faults V1 to V7 stands; the netlist is that of the file
+-- The text is a module: the bytes are tokens, the tokens are a file, and none of the faults V1 to V7 applies. The
+-- netlist is that of the file.
 pub record IsModule (bytes : List ℕ) (net : Net) : Type 0 where
   pub tokens : List Token
   pub lexed : Lexed 0 bytes tokens

@@ -7,7 +7,7 @@ use Rattle.sap_vtext.specs.Items as item
 
 -- What is declared.
 
--- what a name is declared as: an input, a wire or a register with its width, or a memory with its width and depth
+-- A name is declared as an input, a wire or a register with its width, or as a memory with its width and depth.
 pub data Shape : Type 0 where
   input wire register : ℕ → Shape
   memory : ℕ → ℕ → Shape
@@ -38,17 +38,17 @@ item_declarations _ = []
 abbrev pub declarations : List Port → List Item → List Declaration
 declarations ps xs = map port_declaration ps ++ flat_map item_declarations xs
 
--- what the first of these declarations that has the name declares it as
+-- `shape_in` is what the first of these declarations that has the name declares it as.
 abbrev pub shape_in : List Declaration → List ℕ → Option Shape
 shape_in [] n = None
 shape_in (d ∷ ds) n = if bytes_eq d.name.name n then Some d.shape else shape_in ds n
 
--- what stands before an item
+-- This is what stands before an item.
 pub record Above : Type 0 where
   pub ports : List Port
   pub items : List Item
 
--- an item of a file, and what stands before it there
+-- The item is one of a file, and this stands before it there.
 pub record IsItemOf (f : File) (above : Above) (x : Item) : Type 0 where
   pub below : List Item
   pub ports : above.ports ≡ f.ports
@@ -60,7 +60,7 @@ shape_above above n = shape_in (declarations above.ports above.items) n
 
 -- What is set.
 
--- the three kinds of items that set what they name
+-- Three kinds of items set what they name.
 pub data Setting : Type 0 where
   assign initial always : Setting
 
@@ -90,7 +90,7 @@ abbrev pub is_target : Setting → List ℕ → Option Target → Bool
 is_target s n None = false
 is_target s n (Some t) = same_setting s t.setting && bytes_eq t.name.name n
 
--- one of the items is an `assign`, `initial` or `always` of the name
+-- One of the items is an `assign`, `initial` or `always` of the name.
 abbrev pub is_set : Setting → List ℕ → List Item → Bool
 is_set s n xs = list_any (λ x. is_target s n (target_of x)) xs
 
@@ -105,12 +105,12 @@ has_integer xs = list_any is_integer xs
 
 -- What is known.
 
--- what a name is first declared as, whether it is set, and whether `integer i` is there
+-- It is known what a name is first declared as, whether it is set, and whether `integer i` is there.
 pub record Known : Type 0 where
   pub shape : List ℕ → Option Shape
   pub set : Setting → List ℕ → Bool
   pub integer : Bool
 
--- what is known where this stands above
+-- `known_above` is what is known where this stands above.
 abbrev pub known_above : Above → Known
 known_above above = record { shape = shape_above above; set = λ s n. is_set s n above.items; integer = has_integer above.items }

@@ -1,17 +1,17 @@
 -- The tokens of a module's text.
 use Rattle.std.specs.Prelude.{◌≡◌, ℕ, List, ◌∷◌}
 
--- the keywords
+-- These are the keywords.
 pub data Word : Type 0 where
   module_word endmodule_word input_word output_word reg_word wire_word assign_word initial_word always_word posedge_word if_word for_word integer_word clk_word i_word : Word
 
--- the signs
+-- These are the signs.
 pub data Sign : Type 0 where
   open_paren close_paren open_brace close_brace open_bracket close_bracket comma semicolon colon question at is : Sign
   equal not_equal less less_or_equal shift_left shift_right plus minus star ampersand bar caret tilde : Sign
 
--- what a token is: a keyword; a sign; a name, which is no keyword; a number, and with how many digits it is written; a constant of a width and a
--- number
+-- A token is a keyword; a sign; a name, which is no keyword; a number, with how many digits it is written; or a
+-- constant of a width and a number.
 pub data Kind : Type 0 where
   word : Word → Kind
   sign : Sign → Kind
@@ -19,11 +19,11 @@ pub data Kind : Type 0 where
   number : ℕ → ℕ → Kind
   constant : ℕ → ℕ → Kind
 
--- a token, and how many bytes of the text stand before it
+-- A token is told with how many bytes of the text stand before it.
 pub record Token : Type 0 where
   pub place : ℕ
   pub kind : Kind
 
--- the first of the tokens is of this kind and stands at this place, and then come the others
+-- The first of the tokens is of this kind and stands at this place, and then come the others.
 pub record IsToken (tokens : List Token) (place : ℕ) (kind : Kind) (others : List Token) : Type 0 where
   pub parts : tokens ≡ record { place = place; kind = kind } ∷ others

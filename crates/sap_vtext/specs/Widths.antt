@@ -16,7 +16,7 @@ constant_fits c = nat_le 1 c.width && (nat_le c.width 64 && nat_lt c.value (2 ^ 
 abbrev pub constant_width : Constant → Option ℕ
 constant_width c = if constant_fits c then Some c.width else None
 
--- of an operand that is declared so, and, if it is a wire, is or isn't assigned before
+-- An operand that is declared so, and, if it is a wire, is or isn't assigned before, has this width.
 abbrev pub value_width : Option Shape → Bool → Option ℕ
 value_width (Some (input width)) assigned = Some width
 value_width (Some (register width)) assigned = Some width
@@ -55,7 +55,7 @@ abbrev pub add_widths : Option ℕ → Option ℕ → Option ℕ
 add_widths (Some u) (Some w) = Some (u + w)
 add_widths _ _ = None
 
--- the sum of the parts of a `{}`
+-- `parts_width` is the sum of the parts of a `{}`.
 abbrev pub parts_width : Known → List Operand → Option ℕ
 parts_width k [] = Some 0
 parts_width k (x ∷ xs) = add_widths (operand_width k x) (parts_width k xs)
@@ -65,7 +65,7 @@ abbrev pub slice_width : Option ℕ → ℕ → ℕ → Option ℕ
 slice_width (Some width) high low = if nat_le low high && nat_lt high width then Some (high + 1 - low) else None
 slice_width None high low = None
 
--- the widths that have to be equal: of the target and the operands of an operator
+-- The widths of the target and the operands of an operator have to be equal so.
 pub data Rule : Type 0 where
   all_equal compared first_only : Rule
 
@@ -107,7 +107,7 @@ binary_pairs all_equal target x y = (target, x) ∷ (target, y) ∷ (x, y) ∷ [
 binary_pairs compared target x y = (target, Some 1) ∷ (x, y) ∷ []
 binary_pairs first_only target x y = (target, x) ∷ []
 
--- of `?:`: of the condition and 1, and of the target and the arms
+-- Of `?:`, the condition and 1 have one width, and the target and the arms.
 abbrev pub arm_pairs : Option ℕ → Option ℕ → Option ℕ → Option ℕ → Pairs
 arm_pairs condition target x y = (condition, Some 1) ∷ (target, x) ∷ (target, y) ∷ (x, y) ∷ []
 
@@ -121,7 +121,7 @@ right_pairs k target (item.concat xs) = (target, parts_width k xs) ∷ []
 right_pairs k target (item.slice x high low) = (target, slice_width (operand_width k (item.named x)) high low) ∷ []
 right_pairs k target (item.cell m index) = (target, memory_width (k.shape m.name)) ∷ []
 
--- the pairs of widths that an item wants equal
+-- `pairs` are the pairs of widths that an item wants equal.
 abbrev pub pairs : Known → Item → Pairs
 pairs k (item.assign x right) = right_pairs k (wire_width (k.shape x.name)) right
 pairs k (item.initial x value) = (register_width (k.shape x.name), constant_width value) ∷ []
@@ -131,7 +131,7 @@ pairs k (item.always_cell condition x index value) =
     (operand_width k condition, Some 1) ∷ (memory_width (k.shape x.name), operand_width k value) ∷ []
 pairs k _ = []
 
--- both widths are there, and they differ
+-- Both widths are there, and they differ.
 abbrev pub Differ : Option ℕ × Option ℕ → Type 0
 Differ (Some u, Some w) = u ≢ w
 Differ _ = ⊥

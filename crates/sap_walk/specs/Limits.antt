@@ -1,8 +1,10 @@
--- A grammar whose tokens may break limits, and its two walks: one goes past each limit and keeps the first that was broken, one stops there.
+-- A grammar whose tokens may break limits, and its two walks: one goes past each limit and keeps the first that was
+-- broken, one stops there.
 use Rattle.std.specs.Prelude.{ℕ, ◌+◌, Option, Some, None, Result, Ok, Err, Bool}
 use Rattle.sap_walk.specs.Walk.{Next, Table}
 
--- `tally` adds a token in its role to the counts, and `breach` is the limit that this token breaks after these counts, if any.
+-- `tally` adds a token in its role to the counts, and `breach` is the limit that this token breaks after these
+-- counts, if any.
 pub record Limited : Type 1 where
   pub Symbol : Type 0
   pub Role : Type 0
@@ -14,7 +16,8 @@ pub record Limited : Type 1 where
   pub tally : Counts → Role → Token → Counts
   pub breach : Counts → Role → Token → Option Limit
 
--- what is kept of the tokens that went by: their number, the counts, and the first of them that broke a limit, by its number from 0, with that limit
+-- Of the tokens that went by, this is kept: their number, the counts, and the first of them that broke a limit, by
+-- its number from 0, with that limit.
 pub record Past (Counts Limit : Type 0) : Type 0 where
   pub before : ℕ
   pub counts : Counts
@@ -31,7 +34,7 @@ abbrev pub unless_broken : {A Limit : Type 0} → Option Limit → A → Result 
 unless_broken None a = Ok a
 unless_broken (Some limit) a = Err limit
 
--- a token in its role has gone by
+-- `a` token in its role has gone by.
 abbrev pub passed : {Role Token Counts Limit : Type 0} → (Counts → Role → Token → Counts) → (Counts → Role → Token → Option Limit)
     → Role → Token → Past Counts Limit → Past Counts Limit
 passed tally breach role t past = record {

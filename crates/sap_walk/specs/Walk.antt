@@ -19,7 +19,7 @@ pub record Table : Type 1 where
   pub may_be_empty : Symbol → Bool
   pub enter : Role → Token → Past → Result Past Limit
 
--- a place in the text: what is kept of the tokens before it, and the tokens from there on
+-- A stage is a place in the text: what is kept of the tokens before it, and the tokens from there on.
 pub record Stage (Past Token : Type 0) : Type 0 where
   pub past : Past
   pub left : List Token

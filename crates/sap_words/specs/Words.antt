@@ -29,21 +29,21 @@ IsTwin c = (lattice : List ℕ) × (design : List ℕ) × (first : List ℕ) × 
 
 -- ---- the table
 
--- of operands N alone is a number
+-- Of all operands N alone is a number.
 abbrev pub is_number : (operand : List ℕ) → Bool
 is_number operand = bytes_eq operand (codes "N")
 
--- what a word gives as an operand: itself, or its number
+-- A word gives itself as an operand, or its number.
 abbrev pub Value : (is_number : Bool) → Type 0
 Value false = List ℕ
 Value true = ℕ
 
--- what makes a command of a value for each operand
+-- A maker makes a command of a value for each operand.
 abbrev pub Maker : (operands : List (List ℕ)) → Type 0
 Maker [] = Words
 Maker (operand ∷ operands) = Value (is_number operand) → Maker operands
 
--- a command: its name, the names of its operands in order, and what makes it of their values
+-- A command has a name, the names of its operands in order, and what makes it of their values.
 pub record Row : Type 0 where
   pub name : List ℕ
   pub operands : List (List ℕ)
@@ -74,12 +74,12 @@ commands = row (codes "compile") (codes "LATTICE" ∷ codes "DESIGN" ∷ codes "
 
 -- ---- what words are by it
 
--- an operand begins with no `-`
+-- An operand begins with no `-`.
 abbrev pub is_operand : List ℕ → Bool
 is_operand [] = true
 is_operand (c ∷ cs) = not (eqb c (byte "-"))
 
--- N is one to four decimal digits, and its number is from 1 to 1000
+-- N is one to four decimal digits, and its number is from 1 to 1000.
 abbrev pub are_few_digits : List ℕ → Bool
 are_few_digits text = nat_le 1 (length text) && (nat_le (length text) 4 && list_all is_ascii_digit text)
 
@@ -97,7 +97,7 @@ abbrev pub value_of : (is_number : Bool) → (word : List ℕ) → Option (Value
 value_of false word = Some word
 value_of true word = number_of word
 
--- the command that words make, if each gives a value and they are as many as the operands
+-- `made` is the command that words make, if each gives a value and they are as many as the operands.
 abbrev pub made : (operands : List (List ℕ)) → Maker operands → (words : List (List ℕ)) → Option Words
 made [] make [] = Some make
 made [] make (word ∷ words) = None
@@ -108,11 +108,11 @@ made (operand ∷ operands) make (word ∷ words) = option_and_then (λ v. made 
 abbrev pub row_named : (name : List ℕ) → Option Row
 row_named name = find (λ r. bytes_eq name r.name) commands
 
--- the command that words make by the row of this name
+-- `made_by` is the command that words make by the row of this name.
 abbrev pub made_by : (name : List ℕ) → (words : List (List ℕ)) → Option Words
 made_by name words = option_and_then (λ r. made r.operands r.make words) (row_named name)
 
--- the command that the words are, if they are one: that of the row of the first word
+-- `command_of` is the command of the words, if they are one: that of the row of the first word.
 abbrev pub command_of : List (List ℕ) → Option Words
 command_of [] = None
 command_of (name ∷ operands) = if list_all is_operand operands then made_by name operands else None

@@ -5,7 +5,7 @@ use Rattle.sap_desk.specs.Cause.{counted}
 use Rattle.sap_desk.specs.Whole.{Between, Gained, LostAtMostOne}
 use Rattle.sap_stim.specs.declared.fault.StimFault.{StimFault}
 use Rattle.sap_words.specs.Words.{Words, IsTwin, command_of}
-use Rattle.sap_files.specs.Prelude.{Ending, Refusal, done, refused, failed, no_memory, no_command, lattice_refused, design_refused, part_refused, system_refused, wires_refused, stimulus_refused, module_refused, taint_refused, level_refused, lengths_apart, inputs_apart, wave_refused, asm_refused, status_of, status_of_refusal, line_of, IsFree, Asks, file, by, gives, prints, writes, stops, AreLawful, Cause, Files, Shows, end_of, Blames, Stands, FullFile, FullOutput, OutsideOf, Counted, Ends, FaultRose, Left, Moment, ending, ending_of}
+use Rattle.sap_files.specs.Prelude.{Ending, Refusal, done, refused, failed, no_memory, no_command, lattice_refused, design_refused, part_refused, system_refused, wires_refused, stimulus_refused, module_refused, taint_refused, level_refused, lengths_apart, inputs_apart, wave_refused, asm_refused, status_of, status_of_refusal, line_of, IsFree, Asks, file, with_the, gives, prints, writes, stops, AreLawful, Cause, Files, Shows, end_of, Blames, Stands, FullFile, FullOutput, OutsideOf, Counted, Ends, FaultRose, Left, Moment, ending, ending_of}
 use Rattle.sap_commands.specs.Commands.{asks, asks_for}
 use Rattle.sap_files.specs.declared.failure.Failure.{Failure}
 use Rattle.sap_files.specs.declared.failure.Failure.TheVariants.{Refused, Desk, PartFile, Memory}
@@ -63,7 +63,7 @@ no_words words m is = rw is (stopped_here no_command (quiet_self m))
 none_shown : (a : Asks) (t : Told) (why : Refusal) (gained : List ℕ) → TakesMemory why → Shows a t (refused why) gained → gained ≡ []
 none_shown (file name k rest) t why gained takes (inl (at, none)) = none
 none_shown (file name k rest) t why gained takes (inr (v, has, shown)) = none_shown (rest v) t why gained takes shown
-none_shown (by V Holds rest) t why gained takes (v, holds, shown) = none_shown (rest v) t why gained takes shown
+none_shown (with_the V Holds rest) t why gained takes (v, holds, shown) = none_shown (rest v) t why gained takes shown
 none_shown (gives text) t why gained takes (is, shown) = cc
 none_shown (prints name text fault) t why gained takes (bytes, there, is, shown) = absurd (never (fault bytes) is) where
   never : (o : Option StimFault) → refused why ≡ end_of o → ⊥
@@ -187,7 +187,7 @@ full_output t m n output room full = λ open_now. ap length output ∙ full open
 outside_after : (a : Asks) (t m n : Told) → n.files ≡ m.files → n.written 1 ≡ m.written 1 → n.room ≡ m.room → OutsideOf a t m → OutsideOf a t n
 outside_after (file name k rest) t m n files output room (inl missing) = inl missing
 outside_after (file name k rest) t m n files output room (inr (v, has, h)) = inr (v, has, outside_after (rest v) t m n files output room h)
-outside_after (by V Holds rest) t m n files output room (v, holds, h) = (v, holds, outside_after (rest v) t m n files output room h)
+outside_after (with_the V Holds rest) t m n files output room (v, holds, h) = (v, holds, outside_after (rest v) t m n files output room h)
 outside_after (gives text) t m n files output room h = full_output t m n output room h
 outside_after (prints name text fault) t m n files output room (inl missing) = inl missing
 outside_after (prints name text fault) t m n files output room (inr full) = inr (full_output t m n output room full)

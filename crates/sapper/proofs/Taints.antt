@@ -9,7 +9,7 @@ use Rattle.sap_vtext.specs.Modules.{IsModule}
 use Rattle.sap_taint.specs.TagNames.{IsClash, HasRoomForTags}
 use Rattle.sap_taint_pass.specs.declared.fault.TaintFault.TheVariants.{Clash}
 use Rattle.sap_words.specs.Words.{Words, taint}
-use Rattle.sap_files.specs.Prelude.{Ending, Refusal, done, refused, taint_refused, status_of, line_of, Has, IsLatticeFile, lattice_file, module_file, Asks, file, by, Cause, Files, Leaves, Written, FirstClash, IsTaintedText, tagged_or_refused}
+use Rattle.sap_files.specs.Prelude.{Ending, Refusal, done, refused, taint_refused, status_of, line_of, Has, IsLatticeFile, lattice_file, module_file, Asks, file, with_the, Cause, Files, Leaves, Written, FirstClash, IsTaintedText, tagged_or_refused}
 use Rattle.sap_files.proofs.Lattices.{lattice_lawful}
 use Rattle.sap_files.proofs.Modules.{module_lawful, one_module}
 use Rattle.sap_taint.proofs.Clashes.{no_clash_with_room}
@@ -31,7 +31,7 @@ tells ls net text is = record {
 
 module _ (lattice verilog out : List ℕ) (answer : ℕ) (t n : Told) where
   abbrev behind_module : Levels → Net → Asks
-  behind_module ls net = by (Option (List ℕ)) (FirstClash net) (tagged_or_refused ls net out)
+  behind_module ls net = with_the (Option (List ℕ)) (FirstClash net) (tagged_or_refused ls net out)
 
   abbrev behind_lattice : Levels → Asks
   behind_lattice ls = file verilog module_file (λ net. behind_module ls net)

@@ -7,21 +7,21 @@ use Rattle.sap_files.specs.Asks.{Cause, Leaves, MayEnd, Output}
 use Rattle.sap_commands.specs.Commands.{asks_for}
 use Rattle.sap_files.specs.After.{Blames, Stands}
 
--- some ending, with its status and its line, and what it leaves
+-- A call has some ending, with its status and its line, and leaves what that ending leaves.
 pub record Answers (words : List (List ℕ)) (lost lost_now answer : ℕ) (t n : Told) : Type 0 where
   pub ending : Ending
   pub status : answer ≡ status_of ending
   pub line : Gained (line_of ending) lost lost_now t n
   pub leaves : Leaves (asks_for words) t n.files ending
-  -- what was written on channel 1
+  -- This was written on standard output.
   pub gained : List ℕ
   pub output : n.written 1 ≡ t.written 1 ++ gained
   pub shows : Output (asks_for words) t gained ending
   pub blames : Blames t.blame n.blame ending
   pub stands : Stands (asks_for words) t ending gained t.uses n.uses
-  -- a channel takes as much as before
+  -- A channel takes as much as before.
   pub room : n.room ≡ t.room
-  -- but for a failed call and want of memory the words and files have the ending's cause
+  -- Unless a call failed or memory ran out, the arguments and files have the ending's cause.
   pub cause : IsFree ending ⊎ Cause (asks_for words) t ending
 
 -- Over a desk that tells nothing as well: an answer but 6 and 7 is one that the words can come to.

@@ -6,7 +6,7 @@ use Rattle.sap_files.specs.Ending.{Ending, Refusal as Reason, refused, no_memory
 use Rattle.sap_files.specs.Steps.{Moment}
 use Rattle.sapper.specs.Outside.{FullLines}
 
--- channel 2 has a line more
+-- Standard error has a line more, or a part of it.
 pub record ToldLine (line : List ℕ) (lost now : ℕ) (rose : Type 0) (t n : Told) : Type 0 where
   pub gained : Gained line lost now t n
   pub files : n.files ≡ t.files
@@ -22,7 +22,8 @@ pub record Tells (line : List ℕ) (before after : Moment) : Type 0 where
   pub lost : LostAtMostOne before.lost after.lost
   pub sure : before.sure → after.sure
 
--- its line takes memory: each refusal's but that of a stimulus, behind whose lines none is taken, and that of words that are no command
+-- The line of a refusal takes memory, except for a stimulus, after whose lines none is taken, and for arguments that
+-- are no command.
 abbrev pub TakesMemory : Reason → Type 0
 TakesMemory no_command = ⊥
 TakesMemory (lattice_refused fault) = Unit {0}
@@ -39,7 +40,8 @@ TakesMemory (inputs_apart cycle name) = Unit {0}
 TakesMemory (wave_refused fault) = Unit {0}
 TakesMemory (asm_refused place fault) = Unit {0}
 
--- an ending is told by its status and its line; want of memory in its place where there is none for the line of a refusal
+-- An ending is reported by its status and its line. If there is no memory for the line of a refusal, out of memory is
+-- reported in its place.
 pub record Reports (e : Ending) (answer : ℕ) (before after : Moment) : Type 0 where
   pub as_told : Ending
   pub is_it : (as_told ≡ e) ⊎ ((as_told ≡ no_memory) × ((why : Reason) × (e ≡ refused why) × TakesMemory why))

@@ -1,5 +1,6 @@
--- The machine. A `machine` writes the canonical text of its design. An `asm` and a `cpu` write what the texts of two assembly files give, or are refused by the
--- line that these give. A `run` on the texts of `machine` and `asm` ends with what `cpu` prints.
+-- The machine. A `machine` writes the canonical text of its design. An `asm` and a `cpu` write what the texts of two
+-- assembly files give, or are refused by the line that these give. A `run` on the texts of `machine` and `asm` ends
+-- with what `cpu` prints.
 use Rattle.std.specs.Prelude.{◌≡◌, ◌≢◌, ℕ, ◌+◌, ◌*◌, List, ◌++◌, Some, Result, Ok, Err}
 use Rattle.sap_desk.specs.Desk.{Told}
 use Rattle.sap_desk.specs.Whole.{Gained}
@@ -13,19 +14,19 @@ use Rattle.sap_words.specs.Words.{command_of, run, machine, asm, cpu}
 use Rattle.sap_files.specs.Ending.{line}
 use Rattle.sap_files.specs.Contents.{Has, IsLatticeFile}
 
--- of the answer of a `machine` and the desk before and after it: but for a failed call on the desk (6) and want of memory (7) it is done
+-- A `machine` writes the text of its design, unless a call on the desk fails (6) or memory runs out (7).
 pub record WritesMachine (answer : ℕ) (t n : Told) : Type 0 where
   pub only : answer ≡ 0 → n.written 1 ≡ t.written 1 ++ canonical_text machine_design
   pub always : answer ≢ 6 → answer ≢ 7 → answer ≡ 0
 
--- of that of a command that gives a text of two files, or the text of its refusal
+-- A command gives a text of two files, or the text of its refusal.
 pub record GivesOfBoth (given : (x y : List ℕ) → Result (List ℕ) (List ℕ)) (first second : List ℕ) (lost lost_now answer : ℕ) (t n : Told) : Type 0 where
-  -- where it is done both files are there, and channel 1 gained what they give
+  -- If it is done, both files are there, and standard output gained what they give.
   pub only : answer ≡ 0
       → (x : List ℕ) × (y : List ℕ) × (text : List ℕ) × (t.files first ≡ Some x) × (t.files second ≡ Some y) × (given x y ≡ Ok text) × (n.written 1 ≡ t.written 1 ++ text)
-  -- where they are there and give a text it is done, but for these two
+  -- If they are there and give a text, it is done, unless one of these two comes.
   pub always : (x y text : List ℕ) → t.files first ≡ Some x → t.files second ≡ Some y → given x y ≡ Ok text → answer ≢ 6 → answer ≢ 7 → answer ≡ 0
-  -- and where they give a refusal, it is told (11)
+  -- If they give a refusal, that is reported (11).
   pub refuses : (x y why : List ℕ) → t.files first ≡ Some x → t.files second ≡ Some y → given x y ≡ Err why → answer ≢ 6 → answer ≢ 7
       → (answer ≡ 11) × Gained (line why) lost lost_now t n
 
@@ -37,19 +38,20 @@ pub record AreForMachine (lattice design stimulus : List ℕ) (t : Told) (x y : 
   pub text : List ℕ
   pub of_asm : asm_text x y slices ≡ Ok text
   pub file : t.files stimulus ≡ Some text
-  -- a line of a stimulus can stand for so many cycles
+  -- A line of a stimulus can stand for so many cycles.
   pub count : IsCount (1 + 6 * slices)
 
--- of the answer of a `run` on such files, and the desk before and after it
+-- A `run` answers this on such files, on a desk that tells these contents before and after it.
 pub record RunsMachine (lattice design stimulus : List ℕ) (answer : ℕ) (t n : Told) : Type 0 where
-  -- where it is done channel 1 gained rows that end with what `cpu` prints of the same texts after as many slices
+  -- If it is done, standard output gained rows that end with what `cpu` prints of the same texts after as many
+  -- slices.
   pub only : answer ≡ 0 → (x y : List ℕ) (slices : ℕ) → AreForMachine lattice design stimulus t x y slices
       → (rows : List ℕ) × (n.written 1 ≡ t.written 1 ++ rows) × EndsAsPrinted x y slices rows
-  -- and it is done, but for a failed call on the desk (6) and want of memory (7)
+  -- It is done, unless a call on the desk fails (6) or memory runs out (7).
   pub always : (x y : List ℕ) (slices : ℕ) → AreForMachine lattice design stimulus t x y slices
       → answer ≢ 6 → answer ≢ 7 → answer ≡ 0
 
--- by what the words are
+-- Each of the four commands does so, by what the arguments are.
 pub record Machines (words : List (List ℕ)) (lost lost_now answer : ℕ) (t n : Told) : Type 0 where
   pub design : command_of words ≡ Some machine → WritesMachine answer t n
   pub stimulus : (first second : List ℕ) (slices : ℕ) → command_of words ≡ Some (asm first second slices)

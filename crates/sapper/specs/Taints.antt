@@ -1,5 +1,6 @@
--- Taint. A `taint` writes a module with a tag for each name: clocked on any numbers and tags, names have in it the numbers of the given module's run, and tags the
--- taint of that run; and on streams that agree at or below a level its runs agree there in every cycle.
+-- Taint. A `taint` writes a module with a tag for each name: clocked on any numbers and tags, names have in it the
+-- numbers of the given module's run, and tags the taint of that run; and on streams that agree at or below a level
+-- its runs agree there in every cycle.
 use Rattle.std.specs.Prelude.{◌≡◌, ◌≢◌, ℕ, List, ◌++◌, codes, Some}
 use Rattle.sap_text.specs.Places.{line}
 use Rattle.sap_desk.specs.Desk.{Told}
@@ -17,24 +18,27 @@ use Rattle.sap_files.specs.Tainting.{HasTaintOf}
 -- A text is the one module of a netlist with tags.
 pub record TellsTaint (ls : Levels) (net : Net) (text : List ℕ) : Type 0 where
   pub tagged : Net
-  -- by the grammar of modules the text is this module, and no other
+  -- By the grammar of modules the text is this module, and no other.
   pub is_module : IsModule text tagged
   pub no_other : (other : Net) → IsModule text other → other ≡ tagged
-  -- it is the given one with tags, as wide as codes of levels: it has one run on what that takes, with any tags, and its tags there are the taint of that run
+  -- It is the given one with tags, as wide as codes of levels: it has one run on what that takes, with any tags,
+  -- and its tags there are the taint of that run.
   pub taint : HasTaintOf (order_of ls) net tagged
 
--- of the answer of a `taint` and the desk before and after it
+-- A `taint` answers this on a desk that tells these contents before and after it, exactly where its files are so.
 pub record TaintsExactly (lattice verilog out : List ℕ) (lost lost_now answer : ℕ) (t n : Told) : Type 0 where
-  -- where it is done the files are a lattice and a module in which each tag has a name of its own, and what is written is the module with tags
+  -- If it is done, the files are a lattice and a module in which each tag has a name of its own, and what is
+  -- written is the module with tags.
   pub only : answer ≡ 0
       → (ls : Levels) × (net : Net) × Has t lattice IsLatticeFile ls × Has t verilog IsModule net × HasRoomForTags net
       × ((text : List ℕ) × (n.files out ≡ Some text) × TellsTaint ls net text)
-  -- where they are so it is done, but for a failed call on the desk (6) and want of memory (7)
+  -- If they are so, it is done, unless a call on the desk fails (6) or memory runs out (7).
   pub always : (ls : Levels) (net : Net) → Has t lattice IsLatticeFile ls → Has t verilog IsModule net → HasRoomForTags net → answer ≢ 6 → answer ≢ 7 → answer ≡ 0
-  -- where VERILOG is no module it is refused as one (5), but for these two
+  -- If VERILOG is no module, it is refused as one (5), unless one of these two comes.
   pub no_module : (ls : Levels) (text : List ℕ) → Has t lattice IsLatticeFile ls → t.files verilog ≡ Some text → ((net : Net) → ¬ (IsModule text net))
       → answer ≢ 6 → answer ≢ 7 → answer ≡ 5
-  -- and where it is one with a name whose tag has none of its own it is refused too (5), and the line tells the first such name
+  -- If it is one with a name whose tag has none of its own, it is refused too (5), and the line tells the first
+  -- such name.
   pub clashes : (ls : Levels) (net : Net) (x : List ℕ) → Has t lattice IsLatticeFile ls → Has t verilog IsModule net → IsClash net x → answer ≢ 6 → answer ≢ 7
       → (answer ≡ 5) × Gained (line (codes "module: " ++ taint_text (Clash x))) lost lost_now t n
 

@@ -134,12 +134,12 @@ pub fn sapper<D: Desk>(alloc: Global, words: &[String], desk: &mut D) -> u8
     ensures answers { Between (D.told desk.old) (D.told desk.new) (Answers (map string_bytes words.now) (D.lost desk.old) (D.lost desk.new) result) }
     ensures exact { IfSome (D.told desk.old) (λ t. Exact (map string_bytes words.now) t result) }
     ensures outside { (D.faults desk.new ≢ D.faults desk.old) → D.sure desk.old → Between (D.told desk.old) (D.told desk.new) (Outside (map string_bytes words.now)) }
-    ensures lines { (D.lost desk.new ≢ D.lost desk.old) → D.sure desk.old → Between (D.told desk.old) (D.told desk.new) FullLines }
+    ensures channel_2_full { (D.lost desk.new ≢ D.lost desk.old) → D.sure desk.old → Between (D.told desk.old) (D.told desk.new) FullLines }
     // Over every desk.
     ensures failed { result ≡ 6 → D.faults desk.new ≡ counted (D.faults desk.old) }
     ensures counted { (result ≢ 6) → D.faults desk.new ≡ D.faults desk.old }
     ensures refused { words_for (map string_bytes words.now) ≡ None → result ≡ 2 }
-    ensures may { MayAnswer (map string_bytes words.now) result }
+    ensures possible { MayAnswer (map string_bytes words.now) result }
     ensures words { result ≡ 2 → (words_for (map string_bytes words.now) ≡ None) ⊎ IsTwin (words_for (map string_bytes words.now)) }
     // Of all the calls on channel 2 at most one fails, and none where it is done.
     ensures lost { LostAtMostOne (D.lost desk.old) (D.lost desk.new) }

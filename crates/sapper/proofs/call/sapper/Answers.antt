@@ -43,8 +43,8 @@ returns-in-Some-Err-clause-outside g c = λ changed sure.
     let told = c.report.ensures in
     outside words told.as_told _ _ _ (told_end _ (ending c.in-Some-Err.failure) c.report.result _ _ _ ended told) told.line changed sure
 
-pub returns-in-Some-Err-clause-lines : goal.returns-in-Some-Err-clause-lines
-returns-in-Some-Err-clause-lines g c = λ changed sure.
+pub returns-in-Some-Err-clause-channel_2_full : goal.returns-in-Some-Err-clause-channel_2_full
+returns-in-Some-Err-clause-channel_2_full g c = λ changed sure.
     let words = map string_bytes c.args.words.now in
     let ended = same_end words _ _ _ _ c.in-Some-Err.field-0-is c.in-Some-Err.ensures.asked in
     let told = c.report.ensures in
@@ -98,23 +98,23 @@ returns-in-None-clause-exact g c =
     exact (map string_bytes c.args.words.now) (refused no_command) (lawful_words (map string_bytes c.args.words.now)) 2 before before refl
     (no_words (map string_bytes c.args.words.now) before (c.in-None.ensures.none refl))
 
-pub returns-in-Some-Ok-clause-may : goal.returns-in-Some-Ok-clause-may
-returns-in-Some-Ok-clause-may g c =
+pub returns-in-Some-Ok-clause-possible : goal.returns-in-Some-Ok-clause-possible
+returns-in-Some-Ok-clause-possible g c =
     may_answer (map string_bytes c.args.words.now) done 0 _ _ refl
     (same_end (map string_bytes c.args.words.now) _ _ _ _ c.in-Some-Ok.field-0-is c.in-Some-Ok.ensures.asked)
 
-pub returns-in-Some-Err-clause-may : goal.returns-in-Some-Err-clause-may
-returns-in-Some-Err-clause-may g c =
+pub returns-in-Some-Err-clause-possible : goal.returns-in-Some-Err-clause-possible
+returns-in-Some-Err-clause-possible g c =
     let words = map string_bytes c.args.words.now in
     let ended = same_end words _ _ _ _ c.in-Some-Err.field-0-is c.in-Some-Err.ensures.asked in
     let told = c.report.ensures in
     may_answer words told.as_told c.report.result _ _ told.status (told_end _ (ending c.in-Some-Err.failure) c.report.result _ _ _ ended told)
 
 pub returns-in-Some-Err-clause-words : goal.returns-in-Some-Err-clause-words
-returns-in-Some-Err-clause-words g c = two_words (map string_bytes c.args.words.now) c.report.result (returns-in-Some-Err-clause-may g c)
+returns-in-Some-Err-clause-words g c = two_words (map string_bytes c.args.words.now) c.report.result (returns-in-Some-Err-clause-possible g c)
 
-pub returns-in-None-clause-may : goal.returns-in-None-clause-may
-returns-in-None-clause-may g c =
+pub returns-in-None-clause-possible : goal.returns-in-None-clause-possible
+returns-in-None-clause-possible g c =
     let before = seen g.D.Desk.told g.D.Desk.faults g.D.Desk.lost g.D.Desk.sure c.args.desk.now in
     may_answer (map string_bytes c.args.words.now) (refused no_command) 2 before before refl
     (no_words (map string_bytes c.args.words.now) before (c.in-None.ensures.none refl))
