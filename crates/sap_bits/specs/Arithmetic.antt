@@ -36,7 +36,7 @@ slice_of a hi lo = a / 2 ^ lo % 2 ^ (hi + 1 - lo)
 abbrev pub joined : (a wb b : ℕ) → ℕ
 joined a wb b = a * 2 ^ wb + b
 
--- what an operator asks of its second number: a shift takes any count
+-- What an operator asks of its second number: a shift takes any count.
 abbrev pub RightFits : Op2 → (w b : ℕ) → Type 0
 RightFits Shl w b = Unit {0}
 RightFits Shr w b = Unit {0}

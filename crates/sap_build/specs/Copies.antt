@@ -58,7 +58,7 @@ copy_memory f m =
       value = copy_operand f m.value;
     }
 
--- the netlist with f x for each name x, under a module name of its own
+-- The netlist with f x for each name x, under a module name of its own.
 abbrev pub copy_net : (module_name : Name) → (Name → Name) → Net → Net
 copy_net module_name f n =
     record {
@@ -71,15 +71,15 @@ copy_net module_name f n =
       memories = map (copy_memory f) n.memories;
     }
 
--- no two of these names become one
+-- No two of these names become one.
 abbrev pub IsOneToOne : (Name → Name) → List Name → Type 0
 IsOneToOne f ns = (x y : Name) → is_among x ns ≡ true → is_among y ns ≡ true → f x ≡ f y → x ≡ y
 
--- no two declared names become one, and each becomes a name that a module can have
+-- No two declared names become one, and each becomes a name that a module can have.
 pub record KeepsApart (f : Name → Name) (n : Net) : Type 0 where
   pub apart : IsOneToOne f n.names
   pub named : AllByRecursion (λ x. is_name (f x) ≡ true) n.names
 
--- a valuation of a copy, read at the names of the netlist
+-- A valuation of a copy, read at the names of the netlist.
 abbrev pub through : (Name → Name) → Valuation → Valuation
 through f v = record { value = λ x. v.value (f x); cell = λ m. v.cell (f m) }

@@ -1,5 +1,5 @@
--- An example: a counter, written in the order in which a module declares it. Its register takes a wire that is declared behind it, and so does its output.
--- A memory has the last count of each remainder by four.
+-- An example: a counter, written in the order in which a module declares it. Its register takes a wire that is declared
+-- behind it, and so does its output. A memory has the last count of each remainder by four.
 use Rattle.std.specs.Prelude.{codes}
 use Rattle.sap_bits.specs.declared.Op2.TheVariants.{Add}
 use Rattle.sap_net.specs.declared.parts.Operand.TheVariants.{Named, Constant}
@@ -46,7 +46,7 @@ counts =
       value = Named (codes "n1");
     }
 
--- the names with their ports ..
+-- The names of the counter, with its ports.
 abbrev pub counter_names : Net
 counter_names =
     declared (codes "n2")
@@ -54,7 +54,7 @@ counter_names =
     (shown (record { name = codes "count"; kind = kind.Register })
     (shown (record { name = codes "out"; kind = kind.Wire }) (with_input step (blank (codes "top"))))))
 
--- .. and what they are
+-- The counter.
 abbrev pub counter : Net
 counter = with_memory counts (registered count (assigned output (assigned place (assigned next counter_names))))
 

@@ -29,7 +29,7 @@ left_sum = copy_net (codes "top") left summing
 abbrev pub right_sum : Net
 right_sum = copy_net (codes "top") right summing
 
--- the right one's input is a wire: the register of the left one
+-- The right one's input is a wire: the register of the left one.
 abbrev pub feed : Wire
 feed = record { name = codes "right_a"; width = 8; right = Copy (Named (codes "left_d")) }
 
@@ -63,6 +63,6 @@ both =
       memories = left_sum.memories ++ right_sum.memories;
     }
 
--- each is a part of the whole
+-- Each is a part of the whole.
 abbrev pub SideBySide : Type 0
 SideBySide = IsNetlist both × IsPart left summing both × IsPart right summing both

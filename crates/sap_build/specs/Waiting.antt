@@ -1,4 +1,5 @@
--- Netlists in the making: wires that are declared before they are assigned, and registers and memories before it is known what they take.
+-- Netlists in the making: wires that are declared before they are assigned, and registers and memories before it is
+-- known what they take.
 use Rattle.std.specs.Prelude.{◌≡◌, ℕ, List, [], ◌∷◌, ◌++◌, map}
 use Rattle.std.specs.List.{AllByRecursion}
 use Rattle.sap_maps.specs.Maps.{Name}
@@ -15,11 +16,11 @@ use Rattle.sap_net.specs.IsNetlist.{IsNetlist, readable, shapes}
 use Rattle.sap_build.specs.Writing.{declared, shown, assigned}
 use Rattle.sap_build.specs.Written.{IsNew, ArePorts}
 
--- a wire that is 0 till it is assigned
+-- A wire that is 0 till it is assigned.
 abbrev pub waiting_wire : Name × ℕ → Wire
 waiting_wire e = record { name = e.0; width = e.1; right = Copy (Constant e.1 0) }
 
--- the netlist with wires that wait for their `assign`, behind those that have it
+-- The netlist with wires that wait for their `assign`, behind those that have it.
 abbrev pub waiting : Scope → Net → Net
 waiting es n =
     record {
@@ -32,7 +33,7 @@ waiting es n =
       memories = n.memories;
     }
 
--- the netlist with these registers and memories
+-- The netlist with these registers and memories.
 abbrev pub at_edges : List Register → List Memory → Net → Net
 at_edges rs ms n =
     record {
@@ -45,13 +46,13 @@ at_edges rs ms n =
       memories = ms;
     }
 
--- one more wire that waits, ..
+-- A netlist stays one with one more wire that waits.
 abbrev pub WiresWait : Type 0
 WiresWait =
     (n : Net) (es : Scope) → IsNetlist (waiting es n) → (x : Name) (u : ℕ) → IsNew n x → IsWidth u
     → IsNetlist (waiting (es ++ (x, u) ∷ []) (declared x n))
 
--- .. and with a port
+-- A netlist stays one with one more wire that waits and has a port.
 abbrev pub ShownWiresWait : Type 0
 ShownWiresWait =
     (n : Net) (es : Scope) → IsNetlist (waiting es n) → ArePorts n → (x : Name) (u : ℕ) → IsNew n x → IsWidth u
@@ -60,7 +61,8 @@ ShownWiresWait =
 -- A wire waits no more, once it is assigned; it reads inputs, registers and the wires that were assigned before.
 abbrev pub WaitsEnd : Type 0
 WaitsEnd =
-    (n : Net) (es fs : Scope) (w : Wire) → IsNetlist (waiting (es ++ (w.name, w.width) ∷ fs) n) → IsRight (shapes n) (readable n) w.width w.right
+    (n : Net) (es fs : Scope) (w : Wire) → IsNetlist (waiting (es ++ (w.name, w.width) ∷ fs) n)
+    → IsRight (shapes n) (readable n) w.width w.right
     → IsNetlist (waiting (es ++ fs) (assigned w n))
 
 -- Registers and memories of the same names, widths and depths can take any input, register and wire.
@@ -69,4 +71,5 @@ EdgesAreGiven =
     (n : Net) → IsNetlist n → (rs : List Register) (ms : List Memory)
     → map {B = Name × ℕ} (λ r. (r.name, r.width)) rs ≡ map (λ r. (r.name, r.width)) n.registers
     → map {B = Name × (ℕ × ℕ)} (λ m. (m.name, (m.width, m.depth))) ms ≡ shapes n
-    → AllByRecursion (IsRegister (readable n)) rs → AllByRecursion (IsMemory (readable n)) ms → IsNetlist (at_edges rs ms n)
+    → AllByRecursion (IsRegister (readable n)) rs → AllByRecursion (IsMemory (readable n)) ms
+    → IsNetlist (at_edges rs ms n)

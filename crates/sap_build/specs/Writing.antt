@@ -10,11 +10,11 @@ use Rattle.sap_net.specs.declared.parts.Memory.{Memory}
 use Rattle.sap_net.specs.Names.{is_among, helper}
 use Rattle.sap_net.specs.Net.{Net}
 
--- the netlist with nothing but its module's name
+-- The netlist with nothing but its module's name.
 abbrev pub blank : (module_name : Name) → Net
 blank x = record { module_name = x; names = []; ports = []; inputs = []; wires = []; registers = []; memories = [] }
 
--- the netlist with more declared names, wires and registers, each behind those that are there
+-- The netlist with more declared names, wires and registers, each behind those that are there.
 abbrev pub grown : List Name → List Wire → List Register → Net → Net
 grown xs ws rs n =
     record {
@@ -27,7 +27,7 @@ grown xs ws rs n =
       memories = n.memories;
     }
 
--- the netlist with one more declared name
+-- The netlist with one more declared name.
 abbrev pub declared : Name → Net → Net
 declared x n =
     record {
@@ -40,7 +40,7 @@ declared x n =
       memories = n.memories;
     }
 
--- with one more port, whose name is declared with it
+-- With one more port, whose name is declared with it.
 abbrev pub shown : Port → Net → Net
 shown p n =
     record {
@@ -53,7 +53,7 @@ shown p n =
       memories = n.memories;
     }
 
--- with one more input, and the port of it
+-- With one more input, and the port of it.
 abbrev pub with_input : Input → Net → Net
 with_input i n =
     record {
@@ -66,7 +66,7 @@ with_input i n =
       memories = n.memories;
     }
 
--- with one more `assign`, to a name that is declared elsewhere
+-- With one more `assign`, to a name that is declared elsewhere.
 abbrev pub assigned : Wire → Net → Net
 assigned w n =
     record {
@@ -79,7 +79,7 @@ assigned w n =
       memories = n.memories;
     }
 
--- with one more register, whose name is declared elsewhere
+-- With one more register, whose name is declared elsewhere.
 abbrev pub registered : Register → Net → Net
 registered r n =
     record {
@@ -92,7 +92,7 @@ registered r n =
       memories = n.memories;
     }
 
--- with one more memory, and its name
+-- With one more memory, and its name.
 abbrev pub with_memory : Memory → Net → Net
 with_memory m n =
     record {
@@ -107,21 +107,21 @@ with_memory m n =
 
 -- ---- names for helping wires
 
--- what no helping wire can be named
+-- What no helping wire can be named.
 abbrev pub taken : Net → List Name
 taken n = n.module_name ∷ n.names
 
--- the helping wires of all numbers from 1 to below k have names that are taken
+-- The helping wires of all numbers from 1 to below k have names that are taken.
 abbrev pub AreTaken : (taken : List Name) (k : ℕ) → Type 0
 AreTaken taken k = (j : ℕ) → 1 ≤ j → j < k → is_among (helper j) taken ≡ true
 
--- the least number from 1 on whose name isn't taken
+-- The least number from 1 on whose name isn't taken.
 pub record IsFree (taken : List Name) (k : ℕ) : Type 0 where
   pub positive : 1 ≤ k
   pub free : is_among (helper k) taken ≡ false
   pub least : AreTaken taken k
 
--- the name of that number
+-- The name of that number.
 pub record IsFresh (taken : List Name) (x : Name) : Type 0 where
   pub number : ℕ
   pub counted : number < 2 ^ 64

@@ -5,7 +5,7 @@ use Rattle.sap_tree.specs.declared.design.Design.{Design}
 use Rattle.sap_lattice.specs.Levels.{Levels}
 use Rattle.sap_check.specs.declared.checked.Checked.{Checked}
 
--- the design that was checked, its tree, and the levels that it was checked for
+-- The design that was checked, its tree, and the levels that it was checked for.
 abbrev pub design_in : Checked → Design
 design_in c = c.design
 

@@ -16,46 +16,50 @@ use Rattle.sap_shape.specs.Examples.{number, block, one, low, leaf, home, decide
 abbrev pub site : ℕ → SiteKind → ℕ → Site
 site column kind entity = record { place = at column; kind = kind; entity = entity }
 
--- x := 0; goto S;
+-- The text `x := 0; goto S;`.
 abbrev pub assigning : CommandBlock
-assigning = block 56 (and_command (lone (assign (mention (at 40) (codes "x")) (number 45 0))) (and_command (home 48) no_command))
+assigning = block 56 (and_command (lone (assign (mention (at 40) (codes "x")) (number 45 0)))
+    (and_command (home 48) no_command))
 
--- goto S otherwise { goto S; }
+-- The text `goto S otherwise { goto S; }`.
 abbrev pub leaving : CommandBlock
 leaving = one 87 (try (go_to (at 60) (mention (at 65) (codes "S"))) (at 67) (one 85 (home 77)))
 
--- if (x) { x := 0; goto S; } else { goto S otherwise { goto S; } }
+-- The text `if (x) { x := 0; goto S; } else { goto S otherwise { goto S; } }`.
 abbrev pub choosing : Command
 choosing = if_else (at 30) (variable (spot (at 34)) (codes "x")) assigning (with_else leaving)
 
--- reg x : 1 enforced low = START; state S enforced low { .. }
+-- The text `reg x : 1 enforced low = START; state S enforced low { .. }`.
 abbrev pub small : ℕ → DesignTree
 small start = record {
   version = One;
-  declarations = Register (at 1) (mention (at 5) (codes "x")) (numeral_at (at 9) 1) low (Some (numeral_at (at 21) start)) ∷ [];
+  declarations = Register (at 1) (mention (at 5) (codes "x")) (numeral_at (at 9) 1) low
+      (Some (numeral_at (at 21) start)) ∷ [];
   states = and_state (leaf (codes "S") low (one 90 choosing)) no_state;
 }
 
 -- The check sites of the small design are its write and its three `goto`s.
 abbrev pub SmallSites : Type 0
-SmallSites = sites_of (small 0) ≡ site 40 sites.Write 0 ∷ site 48 sites.Goto 1 ∷ site 60 sites.Goto 1 ∷ site 77 sites.Goto 1 ∷ []
+SmallSites = sites_of (small 0) ≡ site 40 sites.Write 0 ∷ site 48 sites.Goto 1 ∷ site 60 sites.Goto 1
+    ∷ site 77 sites.Goto 1 ∷ []
 
 -- Its points are its `if` and its `otherwise`.
 abbrev pub SmallPoints : Type 0
 SmallPoints = points_of (small 0) ≡ point points.If (at 30) ∷ point points.Otherwise (at 67) ∷ []
 
--- state P enforced low { fall otherwise { goto P; } state S enforced low { goto S; } }
+-- The text `state P enforced low { fall otherwise { goto P; } state S enforced low { goto S; } }`.
 abbrev pub nested : DesignTree
 nested = record {
   version = One;
   declarations = [];
   states = and_state
-      (state_node (at 1) (mention (at 7) (codes "P")) low (one 60 (try (fall_to_child (at 25)) (at 30) (one 50 (lone (go_to (at 42) (mention (at 47) (codes "P")))))))
+      (state_node (at 1) (mention (at 7) (codes "P")) low
+      (one 60 (try (fall_to_child (at 25)) (at 30) (one 50 (lone (go_to (at 42) (mention (at 47) (codes "P")))))))
       (and_state (leaf (codes "S") low (one 90 (home 80))) no_state))
       no_state;
 }
 
--- a `fall` is a site of its own state
+-- A `fall` is a site of its own state.
 abbrev pub NestedSites : Type 0
 NestedSites = sites_of nested ≡ site 25 sites.Fall 0 ∷ site 42 sites.Goto 0 ∷ site 80 sites.Goto 1 ∷ []
 
@@ -63,7 +67,8 @@ NestedSites = sites_of nested ≡ site 25 sites.Fall 0 ∷ site 42 sites.Goto 0 
 abbrev pub NestedPoints : Type 0
 NestedPoints = points_of nested ≡ point points.Fall (at 25) ∷ point points.Otherwise (at 30) ∷ []
 
--- The design of version 2 in `sap_shape`, `Examples`, with entities a, x, y, P and C. Sites stand at the first tokens of commands, also in the blocks of a `then` and of a `case`.
+-- The design of version 2 in `sap_shape`, `Examples`, with entities a, x, y, P and C. Sites stand at the first tokens
+-- of commands, also in the blocks of a `then` and of a `case`.
 abbrev pub site_on : (line column : ℕ) → SiteKind → ℕ → Site
 site_on l c kind entity = record { place = on l c; kind = kind; entity = entity }
 
@@ -78,6 +83,7 @@ DecidedSites = sites_of decided
     ∷ site_on 5 24 sites.Goto 4
     ∷ []
 
--- the `otherwise` behind the `then` is no point, but the one in its block is
+-- The `otherwise` behind the `then` is no point, but the one in its block is.
 abbrev pub DecidedPoints : Type 0
-DecidedPoints = points_of decided ≡ point points.Then (on 3 8) ∷ point points.Case (on 3 15) ∷ point points.Fall (on 3 31) ∷ point points.Otherwise (on 4 20) ∷ []
+DecidedPoints = points_of decided ≡ point points.Then (on 3 8) ∷ point points.Case (on 3 15)
+    ∷ point points.Fall (on 3 31) ∷ point points.Otherwise (on 4 20) ∷ []

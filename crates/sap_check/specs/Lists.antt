@@ -16,7 +16,10 @@ use Rattle.sap_shape.specs.Sites.{Surroundings}
 
 -- What the body of a state knows of its design and of its state.
 abbrev pub surroundings_of : List Entity → Body → Surroundings
-surroundings_of es b = record { entities = es; home = record { name = b.name.now; kind = b.kind.now; children = states_of b.children.now } }
+surroundings_of es b = record {
+  entities = es;
+  home = record { name = b.name.now; kind = b.kind.now; children = states_of b.children.now };
+}
 
 -- The check sites of a list of commands, as they are told.
 unfoldable pub list_sites : Surroundings → List Cmd → List Site

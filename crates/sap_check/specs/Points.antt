@@ -1,4 +1,5 @@
--- The points of a design, as the check and the report tell of them: each by its word and the place of that. The walk that finds them stands in `sap_tree`, `Points`.
+-- The points of a design, as the check and the report tell of them: each by its word and the place of that. The walk
+-- that finds them stands in `sap_tree`, `Points`.
 use Rattle.std.specs.Prelude.{List, map}
 use Rattle.sap_text.specs.declared.place.Place.{Place}
 use Rattle.sap_tree.specs.Syntax.{Command, lone, try, if_else, try_then, case_of, DesignTree}
@@ -12,7 +13,7 @@ use Rattle.sap_check.specs.declared.point.PointKind.TheVariants as kind
 abbrev pub point : PointKind → Place → Point
 point k place = record { kind = k; place = place }
 
--- a command that is a point: its word and the place of that; the only simple one is a `fall`
+-- A command that is a point: its word and the place of that; the only simple one is a `fall`.
 abbrev pub word_of : Command → Point
 word_of (lone k) = point kind.Fall (place_of k)
 word_of (try k place handler) = point kind.Otherwise place
@@ -20,7 +21,7 @@ word_of (if_else place condition then_block else_block) = point kind.If place
 word_of (try_then k place accepted refused) = point kind.Then place
 word_of (case_of place e arms) = point kind.Case place
 
--- of commands of one body, and of a design's points
+-- Of commands of one body, and of a design's points.
 abbrev pub words_of : List Command → List Point
 words_of cs = map word_of cs
 

@@ -5,7 +5,7 @@ use Rattle.sap_check.specs.declared.site.Site.{Site}
 use Rattle.sap_check.specs.declared.site.SiteKind.{SiteKind}
 use Rattle.sap_check.specs.declared.site.SiteKind.TheVariants as sites
 
--- the name of the entity of a number
+-- The name of the entity of a number.
 abbrev pub entity_name : List Entity → ℕ → List ℕ
 entity_name es n = unwrap_or (option_map (λ e. e.name.name) (slice_get es n)) []
 

@@ -19,26 +19,28 @@ use Rattle.sap_files.specs.Uncompiled.{asks_asm, asks_canonical, asks_cpu, asks_
 use Rattle.sap_linking.specs.Asked.{asks_link}
 use Rattle.sap_files.specs.Asks.{Asks, file, with_the, gives, prints, writes, stops, Cause, IsOutput}
 
--- the text is one of a module for the design
+-- The text is one of a module for the design.
 abbrev pub IsModuleText : Levels → DesignTree → (text : List ℕ) → Type 0
 IsModuleText ls d text = (net : Net) × IsModuleFor ls d net text
 
--- what is asked behind a word that is to be a level: where it names none, it is refused
+-- What is asked behind a word that is to be a level: where it names none, it is refused.
 abbrev pub at_level : (word : List ℕ) → (ℕ → Asks) → Option ℕ → Asks
 at_level word rest None = stops (level_refused word)
 at_level word rest (Some l) = rest l
 
--- what is written of two streams of a design, by where they first don't agree at a level
-abbrev pub compared : Levels → DesignTree → (l : ℕ) → (word : List ℕ) → (one other : List (List Tagged)) → Option Apart → Asks
+-- What is written of two streams of a design, by where they first don't agree at a level.
+abbrev pub compared : Levels → DesignTree → (l : ℕ) → (word : List ℕ) → (one other : List (List Tagged))
+    → Option Apart → Asks
 compared ls d l word one other None = gives (IsAgreement ls d l one other word)
 compared ls d l word one other (Some apart) = stops (difference d apart)
 
--- two streams of a design compared at a level
+-- Two streams of a design compared at a level.
 abbrev pub asks_streams : Levels → DesignTree → (first second word : List ℕ) → (l : ℕ) → Asks
 asks_streams ls d first second word l =
     file first (stream_file 1 ls d) (λ one. file second (stream_file 2 ls d) (λ other.
     with_the (Option Apart) (IsVerdict (order_of ls) l one other) (compared ls d l word one other)))
 
+-- What each command asks.
 abbrev pub asks : Words → Asks
 asks (compile lattice design out) =
     file lattice lattice_file (λ ls. file design (design_file ls) (λ d. writes out (IsModuleText ls d)))
@@ -56,25 +58,28 @@ asks (wave lattice verilog stimulus out) = asks_wave lattice verilog stimulus ou
 asks (unwave lattice dump) = asks_unwave lattice dump
 asks (report lattice design) = asks_report lattice design
 asks (twin lattice design first second level) =
-    file lattice lattice_file (λ ls. with_the (Option ℕ) (λ named. named ≡ level_named ls.names level) (at_level level (λ l.
+    file lattice lattice_file (λ ls. with_the (Option ℕ) (λ named. named ≡ level_named ls.names level)
+    (at_level level (λ l.
     file design (design_file ls) (λ d. asks_streams ls d first second level l))))
 asks (gen n) = gives (λ text. text ≡ generated_text n)
 asks machine = asks_machine
 asks (asm first second n) = asks_asm first second n
 asks (cpu first second n) = asks_cpu first second n
 
--- what words ask that may be no command
+-- What words ask that may be no command.
 abbrev pub asks_if : Option Words → Asks
 asks_if None = stops no_command
 asks_if (Some c) = asks c
 
+-- What words ask.
 abbrev pub asks_for : List (List ℕ) → Asks
 asks_for words = asks_if (command_of words)
 
--- the words and files of a command ask for at most one text
+-- The words and files of a command ask for at most one text.
 abbrev pub OneOutput : Type 0
-OneOutput = (c : Words) (t : Told) (text other : List ℕ) → IsOutput (asks c) t text → IsOutput (asks c) t other → text ≡ other
+OneOutput = (c : Words) (t : Told) (text other : List ℕ) → IsOutput (asks c) t text
+    → IsOutput (asks c) t other → text ≡ other
 
--- the words and files of a command have at most one cause: by them it ends in one way, with one status and one line
+-- The words and files of a command have at most one cause: by them it ends in one way, with one status and one line.
 abbrev pub OneCause : Type 0
 OneCause = (c : Words) (t : Told) (e other : Ending) → Cause (asks c) t e → Cause (asks c) t other → e ≡ other

@@ -35,23 +35,23 @@ pub record CyclesAgree (d : Named) (sites l : ℕ) (v u : Valuation) : Type 0 wh
   pub states : StatesAgree d.program l one.store other.store
   pub refusals : RefusalsAgree (world d).order l one.refused other.refused
 
--- A cycle's numbers have the value of a register under its value's name.
+-- The value of a register in a cycle's numbers.
 abbrev pub shown_value : Named → Valuation → ℕ → ℕ
 shown_value d v x = v.value (value_name (name d x))
 
--- They have the tag of a register, a dynamic memory or a state under its tag's name.
+-- The tag of a register, a dynamic memory or a state in a cycle's numbers.
 abbrev pub shown_tag : Named → Valuation → ℕ → ℕ
 shown_tag d v x = v.value (tag_name (name d x))
 
--- They have the value of a memory's cell at its index.
+-- The value of a memory's cell in a cycle's numbers.
 abbrev pub shown_cell : Named → Valuation → (m i : ℕ) → ℕ
 shown_cell d v m i = v.cell (value_name (name d m)) i
 
--- They have the tag of a memory's cell at its index.
+-- The tag of a memory's cell in a cycle's numbers.
 abbrev pub shown_cell_tag : Named → Valuation → (m i : ℕ) → ℕ
 shown_cell_tag d v m i = v.cell (tag_name (name d m)) i
 
--- They have the place of a state's current child in its group.
+-- The place of a state's current child in a cycle's numbers.
 abbrev pub shown_child : Named → Valuation → ℕ → ℕ
 shown_child d v p = v.value (seat_name (name d p))
 
@@ -66,7 +66,8 @@ pub record AreChildren (d : Named) (v : Valuation) : Type 0 where
 
 -- Site `k` is refused, and the code of its level, one at or below `l`, is `n`.
 abbrev pub IsToldAt : Named → (l : ℕ) → Valuation → (k n : ℕ) → Type 0
-IsToldAt d l v k n = (v.value (refused_name k) ≡ 1) × (v.value (refused_level_name k) ≡ n) × IsLowCode (world d).order d.code l n
+IsToldAt d l v k n = (v.value (refused_name k) ≡ 1) × (v.value (refused_level_name k) ≡ n)
+    × IsLowCode (world d).order d.code l n
 
 -- What a reader of two cycles' numbers sees at l: registers, cells and active paths look alike, the tags of enforced
 -- entities whose authority is at or below l are equal, and the same sites are refused at levels at or below l.
@@ -74,15 +75,20 @@ pub record CyclesLookAlike (d : Named) (sites l : ℕ) (v u : Valuation) : Type 
   pub registers : (x : ℕ) → is_register (world d) x ≡ true
       → LookAlike (world d).order d.code l (shown_value d v x ≡ shown_value d u x) (shown_tag d v x) (shown_tag d u x)
   pub cells : (m i : ℕ) → is_memory (world d) m ≡ true → is_dynamic (world d) m ≡ false → i < depth d m
-      → LookAlike (world d).order d.code l (shown_cell d v m i ≡ shown_cell d u m i) (shown_cell_tag d v m i) (shown_cell_tag d u m i)
+      → LookAlike (world d).order d.code l (shown_cell d v m i ≡ shown_cell d u m i)
+      (shown_cell_tag d v m i) (shown_cell_tag d u m i)
   -- all cells of a dynamic memory have one tag
   pub memories : (m : ℕ) → is_memory (world d) m ≡ true → is_dynamic (world d) m ≡ true
-      → LookAlike (world d).order d.code l ((i : ℕ) → i < depth d m → shown_cell d v m i ≡ shown_cell d u m i) (shown_tag d v m) (shown_tag d u m)
-  pub register_tags : (x : ℕ) → is_register (world d) x ≡ true → is_dynamic (world d) x ≡ false → Low (world d).order l (authority (world d) x)
+      → LookAlike (world d).order d.code l ((i : ℕ) → i < depth d m
+      → shown_cell d v m i ≡ shown_cell d u m i) (shown_tag d v m) (shown_tag d u m)
+  pub register_tags : (x : ℕ) → is_register (world d) x ≡ true → is_dynamic (world d) x ≡ false
+      → Low (world d).order l (authority (world d) x)
       → shown_tag d v x ≡ shown_tag d u x
-  pub cell_tags : (m i : ℕ) → is_memory (world d) m ≡ true → is_dynamic (world d) m ≡ false → Low (world d).order l (authority (world d) m) → i < depth d m
+  pub cell_tags : (m i : ℕ) → is_memory (world d) m ≡ true → is_dynamic (world d) m ≡ false
+      → Low (world d).order l (authority (world d) m) → i < depth d m
       → shown_cell_tag d v m i ≡ shown_cell_tag d u m i
-  pub state_tags : (x : ℕ) → is_state (world d) x ≡ true → x < root (world d) → is_dynamic (world d) x ≡ false → Low (world d).order l (authority (world d) x)
+  pub state_tags : (x : ℕ) → is_state (world d) x ≡ true → x < root (world d)
+      → is_dynamic (world d) x ≡ false → Low (world d).order l (authority (world d) x)
       → shown_tag d v x ≡ shown_tag d u x
   -- so no path ends before a state without children
   pub current : AreChildren d v × AreChildren d u
@@ -93,8 +99,10 @@ pub record CyclesLookAlike (d : Named) (sites l : ℕ) (v u : Valuation) : Type 
 -- seen of the netlist's runs is so related at l, cycle n with cycle n.
 abbrev pub OnAgreeingStreams : Levels → DesignTree → Net → (Pair : (l : ℕ) → Valuation → Valuation → Type 0) → Type 0
 OnAgreeingStreams ls d n Pair =
-    (l : ℕ) (a b : List (List Tagged)) → StreamFits (world (named_of ls d)) a → StreamFits (world (named_of ls d)) b → StreamsAgree (order_of ls) l a b
-    → (vs us : List Valuation) → IsRun n (coded_stream (named_of ls d).code a) vs → IsRun n (coded_stream (named_of ls d).code b) us
+    (l : ℕ) (a b : List (List Tagged)) → StreamFits (world (named_of ls d)) a
+    → StreamFits (world (named_of ls d)) b → StreamsAgree (order_of ls) l a b
+    → (vs us : List Valuation) → IsRun n (coded_stream (named_of ls d).code a) vs
+    → IsRun n (coded_stream (named_of ls d).code b) us
     → AllZip (Pair l) (map (observed n) vs) (map (observed n) us)
 
 -- The runs agree: they stand for states and refusals that do, whatever numbers stand for them.

@@ -7,12 +7,16 @@ use Rattle.sap_meaning.specs.Examples.{two_levels, enforced_states}
 use Rattle.sap_interface.specs.StandsFor.{Named}
 use Rattle.sap_compile.specs.Agree.{CyclesAgree, CyclesLookAlike}
 
--- input a : 8; reg x : 8 dynamic; state S enforced low and state T enforced high, with three check sites
+-- Input a : 8; reg x : 8 dynamic; state S enforced low and state T enforced high, with three check sites.
 abbrev pub compared_design : Named
-compared_design = record { program = enforced_states; names = codes "a" ∷ codes "x" ∷ codes "S" ∷ codes "T" ∷ []; code = code_of two_levels }
+compared_design = record {
+  program = enforced_states;
+  names = codes "a" ∷ codes "x" ∷ codes "S" ∷ codes "T" ∷ [];
+  code = code_of two_levels;
+}
 
--- What a cycle shows: x and its tag, T's tag, the place of the root's current child, whether site 1 is refused and the tag of that. S's tag is low, and no
--- other site is refused.
+-- What a cycle shows: x and its tag, T's tag, the place of the root's current child, whether site 1 is refused and the
+-- tag of that. S's tag is low, and no other site is refused.
 pub record Shown : Type 0 where
   pub x : ℕ
   pub x_tag : ℕ
@@ -21,21 +25,24 @@ pub record Shown : Type 0 where
   pub refused : ℕ
   pub refused_tag : ℕ
 
+-- The numbers of a cycle that is compared.
 abbrev pub numbers_of : Shown → Valuation
 numbers_of c = record {
-  value = λ name. unwrap_or (find ((codes "v_x", c.x) ∷ (codes "t_x", c.x_tag) ∷ (codes "t_T", c.t_tag) ∷ (codes "s_0", c.child)
+  value = λ name. unwrap_or (find ((codes "v_x", c.x) ∷ (codes "t_x", c.x_tag) ∷ (codes "t_T", c.t_tag)
+      ∷ (codes "s_0", c.child)
       ∷ (codes "c_1", c.refused) ∷ (codes "l_1", c.refused_tag) ∷ []) name) 0;
   cell = λ memory index. 0;
 }
 
--- x is 5 at low, T is at high, S is the current child, and nothing is refused
+-- `x` is 5 at low, T is at high, S is the current child, and nothing is refused.
 abbrev pub calm : Shown
 calm = record { x = 5; x_tag = 0; t_tag = 1; child = 0; refused = 0; refused_tag = 0 }
 
--- what a relation of two cycles says of pairs that differ in high things, or in one low thing
+-- What a relation of two cycles says of pairs that differ in high things, or in one low thing.
 pub record TellsApart (R : Valuation → Valuation → Type 0) : Type 0 where
   -- They differ in x's number, at high in both, and in a refusal at high.
-  pub high_things : R (numbers_of (record calm { x_tag = 1; refused = 1; refused_tag = 1 })) (numbers_of (record calm { x = 6; x_tag = 1 }))
+  pub high_things : R (numbers_of (record calm { x_tag = 1; refused = 1; refused_tag = 1 }))
+      (numbers_of (record calm { x = 6; x_tag = 1 }))
   -- Each of these pairs differs in one thing: in x's number, at low in both; ..
   pub register : R (numbers_of calm) (numbers_of (record calm { x = 6 })) → ⊥
   -- .. in x's tag, low in one alone; ..
@@ -47,8 +54,10 @@ pub record TellsApart (R : Valuation → Valuation → Type 0) : Type 0 where
   -- .. and in the current child of the root, S at low or T at high.
   pub child : R (numbers_of calm) (numbers_of (record calm { child = 1 })) → ⊥
 
+-- The relation on what cycles stand for tells the pairs apart.
 abbrev pub ComparedCycles : Type 0
 ComparedCycles = TellsApart (CyclesAgree compared_design 3 0)
 
+-- The relation on numbers tells the pairs apart.
 abbrev pub ComparedNumbers : Type 0
 ComparedNumbers = TellsApart (CyclesLookAlike compared_design 3 0)

@@ -12,9 +12,10 @@ use Rattle.sap_interface.specs.Designs.{StandsForDesign, StartsAsDesign}
 use Rattle.sap_compile.specs.Agree.{RunsAgree, RunsLookAlike}
 use Rattle.sap_compile.specs.Runs.{HasOneRunOnStreams}
 
--- The design is well formed, the text is that of a module, the module stands for the design, starts as it does and has exactly
--- one run on every stream that fits, and on streams that agree at or below a level its runs agree there in every cycle. No two of
--- its helping wires are alike, each is read, and none folds any further; wires that are ports are copies. The module is small.
+-- The design is well formed, the text is that of a module, the module stands for the design, starts as it does and has
+-- exactly one run on every stream that fits, and on streams that agree at or below a level its runs agree there in
+-- every cycle. No two of its helping wires are alike, each is read, and none folds any further; wires that are ports
+-- are copies. The module is small.
 pub record IsModuleFor (ls : Levels) (d : DesignTree) (net : Net) (text : List ℕ) : Type 0 where
   pub well_formed : WellFormed ls d
   pub is_module : IsModule text net

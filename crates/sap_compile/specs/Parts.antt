@@ -8,21 +8,26 @@ use Rattle.sap_net.specs.Net.{Net}
 use Rattle.sap_tree.specs.Syntax.{DesignTree}
 use Rattle.sap_compile.specs.declared.compiled.Compiled.{Compiled}
 
+-- The checked design.
 abbrev pub checked_of : Compiled → Checked
 checked_of c = c.checked
 
+-- What hangs on the points of the design.
 abbrev pub hang_of : Compiled → Table
 hang_of c = c.hang
 
+-- The netlist.
 abbrev pub netlist_of : Compiled → Net
 netlist_of c = c.netlist
 
+-- The text of the module.
 abbrev pub module_of : Compiled → List ℕ
 module_of c = c.module
 
--- the design, and the levels over which it is well formed
+-- The design, and the levels over which it is well formed.
 abbrev pub design_of : Compiled → DesignTree
 design_of c = tree_in c.checked
 
+-- The levels of the lattice.
 abbrev pub levels_of : Compiled → Levels
 levels_of c = levels_in c.checked

@@ -21,4 +21,5 @@ pub record HasOneRun (n : Net) (inputs : List (List ℕ)) : Type 0 where
 -- So it is on every stream that fits the design, its levels given as codes.
 abbrev pub HasOneRunOnStreams : Levels → DesignTree → Net → Type 0
 HasOneRunOnStreams ls d n =
-    (stream : List (List Tagged)) → StreamFits (world (named_of ls d)) stream → HasOneRun n (coded_stream (named_of ls d).code stream)
+    (stream : List (List Tagged)) → StreamFits (world (named_of ls d)) stream
+    → HasOneRun n (coded_stream (named_of ls d).code stream)

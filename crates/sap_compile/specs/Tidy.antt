@@ -11,12 +11,12 @@ use Rattle.sap_share.specs.Differing.{AllDiffer}
 use Rattle.sap_fold.specs.Settled.{IsSettled, is_copy}
 use Rattle.sap_trim.specs.Reads.{IsRead}
 
--- the wires that have none of these names
+-- The wires that have none of these names.
 abbrev pub other_wires : List Name → Net → List Wire
 other_wires shown n = filter (λ w. not (is_among w.name shown)) n.wires
 
--- Some names are shown, as those of ports are. Each other wire is read, no two of them have the same width and the same right side, and the right side of each
--- is no copy and folds to itself. The wires that are shown only copy.
+-- Some names are shown, as those of ports are. Each other wire is read, no two of them have the same width and the same
+-- right side, and the right side of each is no copy and folds to itself. The wires that are shown only copy.
 pub record IsTidy (shown : List Name) (n : Net) : Type 0 where
   pub read : AllByRecursion (λ w. IsRead n w.name) (other_wires shown n)
   pub shared : AllDiffer (other_wires shown n)

@@ -17,7 +17,7 @@ use Rattle.sap_machine.specs.Machine.{machine}
 use Rattle.sap_machine.specs.Table.{UserState}
 use Rattle.sap_machine.specs.Text.{asm_text, cpu_text, user_after, user_line}
 
--- the end of a row: both users' program counters and accumulators as the kernel keeps them, each at its user's level
+-- The end of a row: both users' program counters and accumulators as the kernel keeps them, each at its user's level.
 abbrev pub kept_text : (a b : UserState) → List ℕ
 kept_text a b = line (codes " apc=" ++ decimal a.pc ++ codes "@a aacc=" ++ decimal a.acc
     ++ codes "@a bpc=" ++ decimal b.pc ++ codes "@b bacc=" ++ decimal b.acc ++ codes "@b")

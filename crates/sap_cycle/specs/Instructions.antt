@@ -9,11 +9,11 @@ use Rattle.sap_cycle.specs.declared.instructions.Instruction.{Instruction}
 use Rattle.sap_cycle.specs.declared.instructions.Placed.{Placed}
 use Rattle.sap_cycle.specs.declared.instructions.Instruction.TheVariants as instruction
 
--- the step at a place, and that which gives 0 behind the last
+-- The step at a place, and that which gives 0 behind the last.
 abbrev pub step_at : List Step → (place : ℕ) → Step
 step_at others k = unwrap_or (slice_get others k) (Copy (Number 0))
 
--- the step of an instruction; those that have no other instruction stand in a list
+-- The step of an instruction; those that have no other instruction stand in a list.
 abbrev pub step_of_instruction : (others : List Step) → Instruction → Step
 step_of_instruction others (instruction.Number x) = Copy (Number x)
 step_of_instruction others (instruction.Copy a) = Copy (At a)
@@ -33,11 +33,11 @@ step_of_instruction others (instruction.Pair w a b) = Pair w (At a) (At b)
 step_of_instruction others (instruction.Slice a hi lo) = Slice (At a) hi lo
 step_of_instruction others (instruction.Other k) = step_at others k
 
--- the place of an instruction's number, and its step
+-- The place of an instruction's number, and its step.
 abbrev pub placed_step : (others : List Step) → Placed → ℕ × Step
 placed_step others p = (p.target, step_of_instruction others p.instruction)
 
--- the place that an instruction names in the list, if any, is below a length
+-- The place that an instruction names in the list, if any, is below a length.
 abbrev pub IsWithin : (count : ℕ) → Instruction → Type 0
 IsWithin count (instruction.Other k) = k < count
 IsWithin count _ = Unit {0}

@@ -19,7 +19,7 @@ use Rattle.sap_cycle.specs.declared.steps.WritePort.{WritePort}
 use Rattle.sap_cycle.specs.Places.{Finds}
 use Rattle.sap_cycle.specs.Loaded.{bases_of}
 
--- the names, each with its width, and the memories
+-- The names, each with its width, and the memories.
 pub record Knows (widths : Name → ℕ) (ms : List Memory) (names : List Name) (k : Known) : Type 0 where
   pub places : Finds k.places names
   pub widths_are : k.widths.items ≡ map widths names
@@ -71,11 +71,11 @@ part_found k o = record { slot = slot_found k o; width = width_found k o }
 abbrev pub base_found : Known → Name → ℕ
 base_found k x = slice_index k.bases.items (unwrap_or (at_name k.memories x) 0)
 
--- the step of a concatenation of two operands
+-- The step of a concatenation of two operands.
 abbrev pub pair_found : Known → Operand → Operand → Step
 pair_found k a b = Pair (width_found k b) (slot_found k a) (slot_found k b)
 
--- the step of a concatenation whose parts, if it has any, stand from a place on
+-- The step of a concatenation whose parts, if it has any, stand from a place on.
 abbrev pub concat_found : Known → (from : ℕ) → List Operand → Step
 concat_found k from (a ∷ (b ∷ [])) = pair_found k a b
 concat_found k from os = Concat from (from + length os)
@@ -85,7 +85,7 @@ abbrev pub concat_parts : Known → List Operand → List Part
 concat_parts k (a ∷ (b ∷ [])) = []
 concat_parts k os = map (part_found k) os
 
--- the step of a right side whose parts, if it has any, stand from a place on
+-- The step of a right side whose parts, if it has any, stand from a place on.
 abbrev pub step_found : Known → (from : ℕ) → Right → Step
 step_found k from (right.Copy a) = Copy (slot_found k a)
 step_found k from (right.One op a) = One op (width_found k a) (slot_found k a)
@@ -104,11 +104,16 @@ parts_found k _ = []
 abbrev pub IsKnownPort : Known → Memory → Type 0
 IsKnownPort k m = IsKnownOperand k m.enable × IsKnownOperand k m.index × IsKnownOperand k m.value
 
--- the write ports of memories whose cells stand behind some
+-- The write ports of memories whose cells stand behind some.
 abbrev pub ports_found : Known → (behind : ℕ) → List Memory → List WritePort
 ports_found k b [] = []
 ports_found k b (m ∷ ms) =
-    record { base = b; enable = slot_found k m.enable; index = slot_found k m.index; value = slot_found k m.value } ∷ ports_found k (b + m.depth) ms
+    record {
+      base = b;
+      enable = slot_found k m.enable;
+      index = slot_found k m.index;
+      value = slot_found k m.value;
+    } ∷ ports_found k (b + m.depth) ms
 
 -- The names of the memories, where the cells of each begin, and what the cells are first.
 pub record AreStored (ms : List Memory) (numbers : NameMap ℕ) (bases : List ℕ) (cells : List ℕ) : Type 0 where
@@ -116,6 +121,6 @@ pub record AreStored (ms : List Memory) (numbers : NameMap ℕ) (bases : List �
   pub bases_are : bases ≡ bases_of 0 ms
   pub cells_are : cells ≡ flat_map (λ m. replicate m.depth m.start) ms
 
--- what inputs, registers and wires have first
+-- What inputs, registers and wires have first.
 abbrev pub first_numbers : Net → List ℕ
 first_numbers n = replicate (length n.inputs) 0 ++ (map (λ r. r.start) n.registers ++ replicate (length n.wires) 0)

@@ -21,7 +21,7 @@ pub record IsProgram (n : Net) (p : Program) : Type 0 where
   pub nexts : NextsMean (value_names n) p.nexts.items n.registers
   pub ports : PortsMean (value_names n) 0 p.ports.items n.memories
 
--- where the cells of each memory begin, behind some
+-- Where the cells of each memory begin, behind some.
 abbrev pub bases_of : (behind : ℕ) → List Memory → List ℕ
 bases_of k [] = []
 bases_of k (m ∷ ms) = k ∷ bases_of (k + m.depth) ms

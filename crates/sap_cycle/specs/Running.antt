@@ -8,23 +8,23 @@ use Rattle.sap_net.specs.Net.{Net}
 use Rattle.sap_net.specs.IsNetlist.{input_names, register_names, wire_names, readable}
 use Rattle.sap_net.specs.Runs.{initial, observed, IsCycle}
 
--- A runner as contracts see it: its netlist, whether it was stepped, the numbers of the inputs, registers and wires, and the cells of all memories,
--- one memory behind another.
+-- A runner as contracts see it: its netlist, whether it was stepped, the numbers of the inputs, registers and wires,
+-- and the cells of all memories, one memory behind another.
 pub record Running : Type 0 where
   pub net : Net
   pub stepped : Bool
   pub values : List ℕ
   pub cells : List ℕ
 
--- the inputs and registers
+-- The inputs and registers.
 abbrev pub first_names : Net → List Name
 first_names n = input_names n ++ register_names n
 
--- the inputs, registers and wires
+-- The inputs, registers and wires.
 abbrev pub value_names : Net → List Name
 value_names n = first_names n ++ wire_names n
 
--- the cells of some memories
+-- The cells of some memories.
 abbrev pub cells_of : (cell : Name → ℕ → ℕ) → List Memory → List ℕ
 cells_of cell ms = flat_map (λ m. map (cell m.name) (range_with_len 0 m.depth)) ms
 
@@ -42,14 +42,16 @@ pub record Shows (r : Running) (cycle : Option Valuation) : Type 0 where
 -- Whatever the runner showed before, it shows the cycle after that on these inputs.
 abbrev pub ShowsNext : (old : Running) → (inputs : List ℕ) → (new : Running) → Type 0
 ShowsNext old inputs new =
-    (before : Option Valuation) (v : Valuation) → Shows old before → IsCycle old.net before inputs v → Shows new (Some v)
+    (before : Option Valuation) (v : Valuation) → Shows old before → IsCycle old.net before inputs v
+    → Shows new (Some v)
 
 -- Registers can be seen always, inputs and wires from the first cycle on.
 abbrev pub can_be_seen : Net → (cycle : Option Valuation) → Name → Bool
 can_be_seen n None x = is_some (find (map (λ r. (r.name, r.width)) n.registers) x)
 can_be_seen n (Some v) x = is_some (find (readable n) x)
 
--- the number that is seen at a name: none where the name isn't that of an input, register or wire, or can't be seen yet
+-- The number that is seen at a name: none where the name isn't that of an input, register or wire, or can't be seen
+-- yet.
 abbrev pub value_seen : Net → (cycle : Option Valuation) → Name → Option ℕ
 value_seen n cycle x = if can_be_seen n cycle x then Some ((seen n cycle).value x) else None
 
@@ -58,7 +60,7 @@ abbrev pub cell_below : Option Memory → (index number : ℕ) → Option ℕ
 cell_below None i x = None
 cell_below (Some m) i x = if nat_lt i m.depth then Some x else None
 
--- the number that is seen in a cell: none where the name isn't that of a memory, or the index isn't below its depth
+-- The number that is seen in a cell: none where the name isn't that of a memory, or the index isn't below its depth.
 abbrev pub cell_seen : Net → (cycle : Option Valuation) → Name → (index : ℕ) → Option ℕ
 cell_seen n cycle x i = cell_below (find (map (λ m. (m.name, m)) n.memories) x) i ((seen n cycle).cell x i)
 
@@ -74,6 +76,7 @@ GivesCell r x i number = (cycle : Option Valuation) → Shows r cycle → number
 abbrev pub IsPlaceOf : Net → Name → (place : ℕ) → Type 0
 IsPlaceOf n x k = slice_get (value_names n) k ≡ Some x
 
--- the number that is seen at the name of a place, or 0 where none can be seen yet
+-- The number that is seen at the name of a place, or 0 where none can be seen yet.
 abbrev pub GivesPlace : Running → (place number : ℕ) → Type 0
-GivesPlace r k number = (cycle : Option Valuation) (x : Name) → Shows r cycle → IsPlaceOf r.net x k → number ≡ (seen r.net cycle).value x
+GivesPlace r k number = (cycle : Option Valuation) (x : Name) → Shows r cycle → IsPlaceOf r.net x k
+    → number ≡ (seen r.net cycle).value x

@@ -28,11 +28,11 @@ step_of_operands operator.Choose o = Choose (At o.c) (At o.a) (At o.b)
 step_of_operands operator.Pair o = Pair o.c (At o.a) (At o.b)
 step_of_operands operator.Slice o = Slice (At o.a) o.b o.c
 
--- a step of an operator on the numbers at two places
+-- A step of an operator on the numbers at two places.
 abbrev pub two_step : Op2 → Operands → ℕ × Step
 two_step op o = (o.target, Two op o.c (At o.a) (At o.b))
 
--- the place of a step's number, and the step
+-- The place of a step's number, and the step.
 abbrev pub operands_step : Operator → Operands → ℕ × Step
 operands_step op o = (o.target, step_of_operands op o)
 
@@ -41,7 +41,7 @@ abbrev pub run_steps : (others : List Step) → Run → List (ℕ × Step)
 run_steps others (Alike op steps) = map (operands_step op) steps.items
 run_steps others (Other steps) = map (placed_step others) steps.items
 
--- the steps of all runs, one after another
+-- The steps of all runs, one after another.
 abbrev pub steps_of_runs : (others : List Step) → List Run → List (ℕ × Step)
 steps_of_runs others [] = []
 steps_of_runs others (r ∷ rs) = run_steps others r ++ steps_of_runs others rs

@@ -4,7 +4,7 @@ use Rattle.sap_cycle.specs.declared.program.Program.{Program}
 use Rattle.sap_cycle.specs.Runs.{steps_of_runs}
 use Rattle.sap_cycle.specs.Steps.{slot_value, settled, AreReady, AreIn, copied, stored, ArePortsReady}
 
--- the values with these inputs and the wires' numbers, and the registers as before
+-- The values with these inputs and the wires' numbers, and the registers as before.
 abbrev pub before_edge : Program → (inputs values cells : List ℕ) → List ℕ
 before_edge p inputs values cells =
     settled cells p.parts.items (steps_of_runs p.others.items p.runs.items) (copied 0 inputs values)

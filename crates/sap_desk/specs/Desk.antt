@@ -5,7 +5,8 @@ use Rattle.std.specs.Prelude.{ℕ, ◌+◌, cond, eqb, ltb, List, [], ◌++◌, 
 pub data Use : Type 0 where
   -- for nothing: it was never opened, or it was finished
   closed : Use
-  -- for reading the file of a name, from a position on; its last read was asked for at the position `asked`, which is 0 before the first
+  -- for reading the file of a name, from a position on; its last read was asked for at the position `asked`, which is 0
+  -- before the first
   reads : (name : List ℕ) → (asked position : ℕ) → Use
   -- for writing the file of a name
   writes : List ℕ → Use
@@ -25,43 +26,44 @@ pub record Told : Type 0 where
   -- how many bytes a channel takes
   pub room : ℕ
 
--- the function with another value at one number
+-- The function with another value at one number.
 abbrev pub at_number : {A : Type 0} → ℕ → A → (ℕ → A) → ℕ → A
 at_number k x f n = cond (eqb n k) x (f n)
 
--- the function with another value at one name
+-- The function with another value at one name.
 abbrev pub at_name : {A : Type 0} → List ℕ → A → (List ℕ → A) → List ℕ → A
 at_name k x f n = cond (bytes_eq n k) x (f n)
 
--- the bytes of a file, none where there is no file
+-- The bytes of a file, none where there is no file.
 abbrev pub bytes_of : Told → List ℕ → List ℕ
 bytes_of t name = unwrap_or (t.files name) []
 
+-- The bytes that a use has still to read.
 abbrev pub rest_of_use : Told → Use → List ℕ
 rest_of_use t (reads name asked position) = drop position (bytes_of t name)
 rest_of_use t (writes name) = []
 rest_of_use t closed = []
 rest_of_use t stream = []
 
--- the bytes that a channel has left to read
+-- The bytes that a channel has left to read.
 abbrev pub rest_of : Told → ℕ → List ℕ
 rest_of t channel = rest_of_use t (t.uses channel)
 
--- open for reading
+-- Open for reading.
 abbrev pub IsReading : Use → Type 0
 IsReading (reads name asked position) = Unit {0}
 IsReading (writes name) = ⊥
 IsReading closed = ⊥
 IsReading stream = ⊥
 
--- open for writing
+-- Open for writing.
 abbrev pub IsWriting : Use → Type 0
 IsWriting (reads name asked position) = ⊥
 IsWriting (writes name) = Unit {0}
 IsWriting closed = ⊥
 IsWriting stream = Unit {0}
 
--- open for either
+-- Open for either.
 abbrev pub IsOpen : Use → Type 0
 IsOpen (reads name asked position) = Unit {0}
 IsOpen (writes name) = Unit {0}
@@ -70,21 +72,23 @@ IsOpen stream = Unit {0}
 
 -- What a call makes of the desk where it answers Ok.
 
--- `open_in`: the channel reads the file of the name, from its first byte
+-- `open_in`: the channel reads the file of the name, from its first byte.
 abbrev pub opened : ℕ → List ℕ → Told → Told
 opened channel name t = record t { uses = at_number channel (reads name 0 0) t.uses }
 
+-- The use after so many bytes were read.
 abbrev pub moved_use : ℕ → Use → Use
 moved_use count (reads name asked position) = reads name position (position + count)
 moved_use count (writes name) = writes name
 moved_use count closed = closed
 moved_use count stream = stream
 
--- `read`: it was asked for at the position, which moves on by what was given; where it fails, by nothing
+-- `read`: it was asked for at the position, which moves on by what was given; where it fails, by nothing.
 abbrev pub moved : ℕ → ℕ → Told → Told
 moved channel count t = record t { uses = at_number channel (moved_use count (t.uses channel)) t.uses }
 
--- what reads in a row make of a use: they gave `count` bytes, and the last of them was asked for once `asked` of these were given, if there was one
+-- What reads in a row make of a use: they gave `count` bytes, and the last of them was asked for once `asked` of these
+-- were given, if there was one.
 abbrev pub read_on_use : (asked : Option ℕ) → (count : ℕ) → Use → Use
 read_on_use None count (reads name last position) = reads name last (position + count)
 read_on_use (Some few) count (reads name last position) = reads name (position + few) (position + count)
@@ -92,11 +96,11 @@ read_on_use asked count (writes name) = writes name
 read_on_use asked count closed = closed
 read_on_use asked count stream = stream
 
--- `read`, any number of times, on one channel
+-- `read`, any number of times, on one channel.
 abbrev pub read_on : (channel : ℕ) → (asked : Option ℕ) → (count : ℕ) → Told → Told
 read_on channel asked count t = record t { uses = at_number channel (read_on_use asked count (t.uses channel)) t.uses }
 
--- `create`: the file of the name is empty, and the channel writes it, with nothing written yet
+-- `create`: the file of the name is empty, and the channel writes it, with nothing written yet.
 abbrev pub created : ℕ → List ℕ → Told → Told
 created channel name t = record t {
   files = at_name name (Some []) t.files;
@@ -104,52 +108,57 @@ created channel name t = record t {
   written = at_number channel [] t.written;
 }
 
+-- The files after a piece was written by a use.
 abbrev pub added_to : Use → List ℕ → (List ℕ → Option (List ℕ)) → List ℕ → Option (List ℕ)
 added_to (reads name asked position) piece files = files
 added_to (writes name) piece files = at_name name (Some (unwrap_or (files name) [] ++ piece)) files
 added_to closed piece files = files
 added_to stream piece files = files
 
--- `write`: the channel has the piece more, and so has its file where the channel is above 2
+-- `write`: the channel has the piece more, and so has its file where the channel is above 2.
 abbrev pub added : ℕ → List ℕ → Told → Told
 added channel piece t = record t {
   files = cond (ltb 2 channel) (added_to (t.uses channel) piece t.files) t.files;
   written = at_number channel (t.written channel ++ piece) t.written;
 }
 
--- `finish`: the channel is open for nothing
+-- `finish`: the channel is open for nothing.
 abbrev pub finished : ℕ → Told → Told
 finished channel t = record t { uses = at_number channel closed t.uses }
 
 -- What a call makes of the desk where it answers Failed.
 
+-- What a desk tells, with this blamed.
 abbrev pub blamed : List ℕ → Told → Told
 blamed name t = record t { blame = name }
 
--- a call on channel 2 blames nobody, one on channel 1 the output, and one on another channel its file
+-- A call on channel 2 blames nobody, one on channel 1 the output, and one on another channel its file.
 abbrev pub blame_at : ℕ → List ℕ → Told → Told
 blame_at channel name t = cond (eqb channel 2) t (blamed (cond (eqb channel 1) (codes "output") name) t)
 
 -- the file that a failed call blames: none where the channel isn't open for the call
 
+-- The file that a use reads.
 abbrev pub name_if_reading : Use → List ℕ
 name_if_reading (reads name asked position) = name
 name_if_reading (writes name) = []
 name_if_reading closed = []
 name_if_reading stream = []
 
+-- The file that a use writes.
 abbrev pub name_if_writing : Use → List ℕ
 name_if_writing (reads name asked position) = []
 name_if_writing (writes name) = name
 name_if_writing closed = []
 name_if_writing stream = []
 
+-- The file of a use.
 abbrev pub name_if_open : Use → List ℕ
 name_if_open (reads name asked position) = name
 name_if_open (writes name) = name
 name_if_open closed = []
 name_if_open stream = []
 
--- what a list tells by place, and past its end
+-- What a list tells by place, and past its end.
 abbrev pub placed : {X A : Type 0} → (X → A) → A → List X → ℕ → A
 placed f none xs k = unwrap_or (option_map f (slice_get xs k)) none

@@ -5,25 +5,26 @@ use Rattle.sap_desk.specs.declared.stored.StoredFile.{StoredFile}
 use Rattle.sap_desk.specs.declared.stored.Channel.{Channel}
 use Rattle.sap_desk.specs.Memory.{use_at, uses_of, written_of, file_named}
 
--- how many bytes a channel of this use, on which so many were written, may still add to the file of a name
+-- How many bytes a channel of this use, on which so many were written, may still add to the file of a name.
 abbrev pub claim_of : ℕ → List ℕ → Use → ℕ → ℕ
 claim_of room name closed written = 0
 claim_of room name (reads owner asked position) written = 0
 claim_of room name (writes owner) written = cond (bytes_eq owner name) (room - written) 0
 claim_of room name stream written = 0
 
+-- The bytes that a channel may still add to a file.
 abbrev pub claim : ℕ → List ℕ → Channel → ℕ
 claim room name c = claim_of room name (use_at c) (length c.written.items)
 
--- how many bytes all the open channels together may still add to the file of a name
+-- How many bytes all the open channels together may still add to the file of a name.
 abbrev pub claims : ℕ → List ℕ → List Channel → ℕ
 claims room name channels = sum_by (claim room name) channels
 
--- for how many bytes each channel has memory
+-- For how many bytes each channel has memory.
 abbrev pub rooms_of : List Channel → ℕ → ℕ
 rooms_of = placed (λ c. vec_capacity c.written) 0
 
--- the files and channels that a store keeps: three channels are there from the start
+-- The files and channels that a store keeps: three channels are there from the start.
 pub record Stands (room : ℕ) (files : List StoredFile) (channels : List Channel) : Type 0 where
   pub standard : 2 < length channels
   -- each file has memory for all that its open channels may still write
@@ -37,7 +38,7 @@ pub record Stands (room : ℕ) (files : List StoredFile) (channels : List Channe
   -- on no channel more than `room` bytes were written
   pub within_room : (k : ℕ) → length (written_of channels k) ≤ room
 
--- the element at a place, and no other, became another
+-- The element at a place, and no other, became another.
 pub record Changed {X : Type 0} (k : ℕ) (R : X → X → Type 0) (old new : List X) : Type 0 where
   pub before : X
   pub after : X
@@ -45,13 +46,13 @@ pub record Changed {X : Type 0} (k : ℕ) (R : X → X → Type 0) (old new : Li
   pub now : new ≡ set old k after
   pub by : R before after
 
--- a file has a part more
+-- A file has a part more.
 pub record LongerFile (part : List ℕ) (before after : StoredFile) : Type 0 where
   pub name : after.name ≡ before.name
   pub bytes : after.bytes.items ≡ before.bytes.items ++ part
   pub room : vec_capacity before.bytes ≤ vec_capacity after.bytes
 
--- a channel has a part more
+-- A channel has a part more.
 pub record LongerChannel (part : List ℕ) (before after : Channel) : Type 0 where
   pub state : after.state ≡ before.state
   pub name : after.name ≡ before.name
@@ -59,6 +60,6 @@ pub record LongerChannel (part : List ℕ) (before after : Channel) : Type 0 whe
   pub given : after.given ≡ before.given
   pub room : vec_capacity before.written ≤ vec_capacity after.written
 
--- a file is put in place of one of its name
+-- A file is put in place of one of its name.
 abbrev pub Puts : StoredFile → List StoredFile → List StoredFile → Type 0
 Puts f old new = (name : List ℕ) → file_named new name ≡ at_name (string_bytes f.name) (Some f) (file_named old) name

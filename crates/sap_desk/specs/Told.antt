@@ -7,6 +7,7 @@ use Rattle.sap_desk.specs.MemoryCalls.{made, fitting}
 use Rattle.sap_desk.specs.Store.{told_in, given_in}
 use Rattle.sap_desk.specs.declared.memory.MemoryDesk.{MemoryDesk}
 
+-- What a desk in memory shows: what it tells, its counts and the calls that are to fail.
 pub record Shown : Type 0 where
   pub told : Told
   -- how many bytes the reads of each channel gave since it was opened
@@ -18,6 +19,7 @@ pub record Shown : Type 0 where
   pub calls : ℕ
   pub failing : List ℕ
 
+-- What a desk in memory shows.
 abbrev pub shown : MemoryDesk → Shown
 shown m = record {
   told = told_in m.store (blame_of m.store.channels.items m.failures.blame);
@@ -28,23 +30,24 @@ shown m = record {
   failing = m.schedule.failing.items;
 }
 
--- a desk as it is made: nothing was given, nothing failed, and nothing is to fail
+-- A desk as it is made: nothing was given, nothing failed, and nothing is to fail.
 abbrev pub fresh : ℕ → Shown
 fresh room = record { told = made room; given = λ k. 0; faults = 0; lost = 0; calls = 0; failing = [] }
 
--- the next call is to fail by its number: the count of calls stands still at its last value
+-- The next call is to fail by its number: the count of calls stands still at its last value.
 abbrev pub IsDue : Shown → Type 0
 IsDue s = Contains s.failing (counted s.calls)
 
--- no call is still to fail by its number
+-- No call is still to fail by its number.
 abbrev pub IsSure : Shown → Type 0
 IsSure s = All (λ n. n < counted s.calls) s.failing
 
--- a call was counted, and the numbers of the calls that are to fail stand
+-- A call was counted, and the numbers of the calls that are to fail stand.
 pub record Called (old new : Shown) : Type 0 where
   pub calls : new.calls ≡ counted old.calls
   pub failing : new.failing ≡ old.failing
 
--- a write on a channel failed, and took what fits of so many of its bytes
+-- A write on a channel failed, and took what fits of so many of its bytes.
 abbrev pub TookOf : ℕ → ℕ → List ℕ → Told → Told → Type 0
-TookOf wanted channel piece t n = n ≡ blame_at channel (name_if_writing (t.uses channel)) (added channel (take (fitting t channel wanted) piece) t)
+TookOf wanted channel piece t n = n ≡ blame_at channel (name_if_writing (t.uses channel))
+    (added channel (take (fitting t channel wanted) piece) t)

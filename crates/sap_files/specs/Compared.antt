@@ -17,46 +17,51 @@ use Rattle.sap_files.specs.Ending.{Refusal, refused, no_memory, level_refused, l
 use Rattle.sap_files.specs.Steps.{ending}
 use Rattle.sap_files.specs.declared.failure.Failure.{Failure}
 
--- where two streams first don't agree at a level, if they don't
+-- Where two streams first don't agree at a level, if they don't.
 abbrev pub IsVerdict : Order → (l : ℕ) → (one other : List (List Tagged)) → Option Apart → Type 0
 IsVerdict o l one other None = StreamsAgree o l one other
 IsVerdict o l one other (Some apart) = IsApart o l one other apart
 
 -- the names of a design's inputs, in the order of declaration
 
+-- The entity is an input.
 abbrev pub is_input : Declared → Bool
 is_input (what.Input width) = true
 is_input (what.Register width) = false
 is_input (what.Memory width depth) = false
 is_input what.State = false
 
+-- The names of the inputs.
 abbrev pub input_names : List Entity → List (List ℕ)
 input_names [] = []
 input_names (e ∷ es) = if is_input e.what then e.name.name ∷ input_names es else input_names es
 
--- the name of the input at a place, the places being counted from 0
+-- The name of the input at a place, the places being counted from 0.
 abbrev pub input_name : DesignTree → (place : ℕ) → List ℕ
 input_name d place = get_or (input_names (entities_of d)) place []
 
--- what is told of streams that don't agree
+-- What is told of streams that don't agree.
 abbrev pub difference : DesignTree → Apart → Refusal
 difference d (Lengths one other) = lengths_apart one other
 difference d (At cycle input) = inputs_apart cycle (input_name d input)
 
--- and of streams that agree
+-- And of streams that agree.
 abbrev pub agreement_line : (level : List ℕ) → (cycles : ℕ) → List ℕ
 agreement_line level cycles = line (codes "agree at " ++ level ++ codes " for " ++ decimal cycles ++ codes " cycles")
 
--- the level of a name; or it names none, and is refused
+-- The level of a name; or it names none, and is refused.
 abbrev pub IsLevelOf : Levels → (word : List ℕ) → Result ℕ Failure → Type 0
 IsLevelOf ls word (Ok l) = Some l ≡ level_named ls.names word
 IsLevelOf ls word (Err e) = (None ≡ level_named ls.names word) × (ending e ≡ refused (level_refused word))
 
--- streams that don't agree are refused so, or there was no memory for it
+-- Streams that don't agree are refused so, or there was no memory for it.
 abbrev pub Differ : DesignTree → Apart → Failure → Type 0
 Differ d apart e = (ending e ≡ no_memory) ⊎ (ending e ≡ refused (difference d apart))
 
--- what comparing two streams at a level gives: the line of streams that agree, or where they first don't
-abbrev pub Finds : Levels → DesignTree → (l : ℕ) → (one other : List (List Tagged)) → (word : List ℕ) → Result (List ℕ) Failure → Type 0
-Finds ls d l one other word (Ok text) = StreamsAgree (order_of ls) l one other × (text ≡ agreement_line word (length one))
-Finds ls d l one other word (Err e) = (ending e ≡ no_memory) ⊎ ((apart : Apart) × IsApart (order_of ls) l one other apart × Differ d apart e)
+-- What comparing two streams at a level gives: the line of streams that agree, or where they first don't.
+abbrev pub Finds : Levels → DesignTree → (l : ℕ) → (one other : List (List Tagged)) → (word : List ℕ)
+    → Result (List ℕ) Failure → Type 0
+Finds ls d l one other word (Ok text) = StreamsAgree (order_of ls) l one other
+    × (text ≡ agreement_line word (length one))
+Finds ls d l one other word (Err e) = (ending e ≡ no_memory)
+    ⊎ ((apart : Apart) × IsApart (order_of ls) l one other apart × Differ d apart e)

@@ -20,15 +20,17 @@ use Rattle.sap_files.specs.declared.failure.DesignFailure.TheVariants.{Refused, 
 
 -- why there is none, by what reading the text or checking its design comes to
 
+-- Why a design file gives no design whose text isn't read.
 abbrev pub unread : ReadFault → DesignFailure
 unread read_fault.Memory = Memory
 unread fault = Refused (Read fault)
 
+-- Why a design file gives no design that isn't well formed.
 abbrev pub unchecked : CheckFault → DesignFailure
 unchecked check_fault.Memory = Memory
 unchecked fault = Refused (Check fault)
 
--- how a command ends for which the design file of this name gives none
+-- How a command ends for which the design file of this name gives none.
 abbrev pub design_ending : (name : List ℕ) → DesignFailure → Ending
 design_ending name (Refused fault) = refused (design_refused fault)
 design_ending name Failed = failed name
@@ -36,17 +38,19 @@ design_ending name Memory = no_memory
 
 -- A design file was read until more bytes were got than a design may have, or its end.
 abbrev pub ReadsDesign : (name : List ℕ) → Result (List ℕ) DesignFailure → Moment → Moment → Type 0
-ReadsDesign name (Ok front) before after = (bytes : List ℕ) × Reads name bytes before after × IsFront most_bytes bytes front
+ReadsDesign name (Ok front) before after = (bytes : List ℕ) × Reads name bytes before after
+    × IsFront most_bytes bytes front
 ReadsDesign name (Err e) before after = Stops (Some most_bytes) name (design_ending name e) before after
 
--- what its bytes give
+-- What its bytes give.
 abbrev pub IsChecked : Levels → (source : List ℕ) → Result Checked DesignFailure → Type 0
 IsChecked ls source (Ok c) = IsWellFormedText ls source (tree_in c) × (levels_in c ≡ ls)
 IsChecked ls source (Err (Refused fault)) = IsDesignFault ls source fault
 IsChecked ls source (Err Failed) = ⊥
 IsChecked ls source (Err Memory) = Unit {0}
 
--- what the file gives
+-- What the file gives.
 abbrev pub GetsDesign : Levels → (name : List ℕ) → Result Checked DesignFailure → Moment → Moment → Type 0
-GetsDesign ls name (Ok c) before after = (bytes : List ℕ) × Reads name bytes before after × IsWellFormedText ls bytes (tree_in c) × (levels_in c ≡ ls)
+GetsDesign ls name (Ok c) before after = (bytes : List ℕ) × Reads name bytes before after
+    × IsWellFormedText ls bytes (tree_in c) × (levels_in c ≡ ls)
 GetsDesign ls name (Err e) before after = EndsReading name (design_file ls) (design_ending name e) before after

@@ -22,7 +22,7 @@ use Rattle.sap_system.specs.declared.link_fault.LinkFault.{LinkFault}
 use Rattle.sap_machine.specs.Text.{refusal_text as assembly_text}
 use Rattle.sap_machine.specs.declared.fault.AsmFault.{AsmFault}
 
--- what is refused of the words and files, and why
+-- What is refused of the words and files, and why.
 pub data Refusal : Type 0 where
   no_command : Refusal
   lattice_refused : LatFileFault → Refusal
@@ -46,6 +46,7 @@ pub data Refusal : Type 0 where
   -- the first assembly file of the words, or the second
   asm_refused : (place : ℕ) → AsmFault → Refusal
 
+-- How a command ends: done, refused for a reason, by a failed call, or out of memory.
 pub data Ending : Type 0 where
   done : Ending
   refused : Refusal → Ending
@@ -53,6 +54,7 @@ pub data Ending : Type 0 where
   failed : List ℕ → Ending
   no_memory : Ending
 
+-- The exit status of a refusal.
 abbrev pub status_of_refusal : Refusal → ℕ
 status_of_refusal (design_refused fault) = 1
 status_of_refusal (part_refused part fault) = 1
@@ -69,24 +71,26 @@ status_of_refusal (wires_refused fault) = 9
 status_of_refusal (wave_refused fault) = 10
 status_of_refusal (asm_refused place fault) = 11
 
+-- The exit status of an ending.
 abbrev pub status_of : Ending → ℕ
 status_of done = 0
 status_of (refused why) = status_of_refusal why
 status_of (failed name) = 6
 status_of no_memory = 7
 
--- the ending has no cause in words and files
+-- The ending has no cause in words and files.
 abbrev pub IsFree : Ending → Type 0
 IsFree done = ⊥
 IsFree (refused why) = ⊥
 IsFree (failed name) = Unit {0}
 IsFree no_memory = Unit {0}
 
+-- How a fault of a design is written.
 abbrev pub design_text : DesignFault → List ℕ
 design_text (Read fault) = read_text fault
 design_text (Check fault) = check_text fault
 
--- what a refusal is told by
+-- What a refusal is told by.
 abbrev pub refusal_text : Refusal → List ℕ
 refusal_text no_command = codes "words"
 refusal_text (lattice_refused fault) = codes "lattice: " ++ lattice_text fault
@@ -103,7 +107,7 @@ refusal_text (inputs_apart cycle name) = codes "streams: cycle " ++ decimal cycl
 refusal_text (wave_refused fault) = codes "wave: " ++ wave_text fault
 refusal_text (asm_refused place fault) = assembly_text place fault
 
--- nothing where the call is done
+-- Nothing where the call is done.
 abbrev pub line_of : Ending → List ℕ
 line_of done = []
 line_of (refused why) = line (refusal_text why)

@@ -30,8 +30,8 @@ use Rattle.sap_files.specs.declared.fault.DesignFault.{DesignFault}
 use Rattle.sap_files.specs.declared.fault.DesignFault.TheVariants as design_fault
 use Rattle.sap_files.specs.Ending.{Refusal, lattice_refused, design_refused, stimulus_refused, module_refused, wave_refused, asm_refused}
 
--- What a file is read as: the number of bytes behind which it is read no further, if any; when its bytes stand for a value; and when they are
--- refused, and why.
+-- What a file is read as: the number of bytes behind which it is read no further, if any; when its bytes stand for a
+-- value; and when they are refused, and why.
 pub record Kind : Type 1 where
   pub most : Option ℕ
   pub Value : Type 0
@@ -44,13 +44,13 @@ pub record IsLawful (k : Kind) : Type 0 where
   pub one_reason : (bytes : List ℕ) (why other : Refusal) → k.Refused bytes why → k.Refused bytes other → why ≡ other
   pub not_both : (bytes : List ℕ) (v : k.Value) (why : Refusal) → k.Stands bytes v → k.Refused bytes why → ⊥
 
--- there is a file of this name, and its bytes are refused
+-- There is a file of this name, and its bytes are refused.
 pub record IsRefused (t : Told) (name : List ℕ) (k : Kind) (why : Refusal) : Type 0 where
   pub bytes : List ℕ
   pub file : t.files name ≡ Some bytes
   pub refused : k.Refused bytes why
 
--- lattice files
+-- Lattice files.
 abbrev pub lattice_file : Kind
 lattice_file = record {
   most = None;
@@ -59,7 +59,8 @@ lattice_file = record {
   Refused = λ bytes why. (fault : LatFileFault) × (why ≡ lattice_refused fault) × FirstFault bytes fault;
 }
 
--- Design files whose design is well formed over the levels of a lattice. They are read no further than shows that they are too long.
+-- Design files whose design is well formed over the levels of a lattice. They are read no further than shows that they
+-- are too long.
 abbrev pub design_file : Levels → Kind
 design_file ls = record {
   most = Some most_bytes;
@@ -68,16 +69,17 @@ design_file ls = record {
   Refused = λ source why. (fault : DesignFault) × (why ≡ design_refused fault) × IsDesignFault ls source fault;
 }
 
--- design files without a lattice: the text of a design within the limits
+-- Design files without a lattice: the text of a design within the limits.
 abbrev pub design_text_file : Kind
 design_text_file = record {
   most = Some most_bytes;
   Value = DesignTree;
   Stands = IsText;
-  Refused = λ source why. (fault : ReadFault) × (why ≡ design_refused (design_fault.Read fault)) × IsReadFault source fault;
+  Refused = λ source why. (fault : ReadFault) × (why ≡ design_refused (design_fault.Read fault))
+      × IsReadFault source fault;
 }
 
--- module files
+-- Module files.
 abbrev pub module_file : Kind
 module_file = record {
   most = None;
@@ -88,6 +90,7 @@ module_file = record {
 
 -- Stimulus files whose every line is taken, the first or the second of the words, by what bytes are read as.
 
+-- A stimulus file, as it is parsed.
 abbrev pub stream_by : (place : ℕ) → (read : List ℕ → Parsed) → Kind
 stream_by place read = record {
   most = None;
@@ -96,15 +99,15 @@ stream_by place read = record {
   Refused = λ bytes why. (fault : StimFault) × (why ≡ stimulus_refused place fault) × ((read bytes).fault ≡ Some fault);
 }
 
--- those of a design
+-- Those of a design.
 abbrev pub stream_file : (place : ℕ) → Levels → DesignTree → Kind
 stream_file place ls d = stream_by place (read_for ls d)
 
--- and of a module
+-- And of a module.
 abbrev pub module_stream_file : Levels → Net → Kind
 module_stream_file ls net = stream_by 1 (read_for_module ls net)
 
--- value change dumps
+-- Value change dumps.
 abbrev pub wave_file : Kind
 wave_file = record {
   most = None;
@@ -113,7 +116,7 @@ wave_file = record {
   Refused = λ bytes why. (fault : WaveFault) × (why ≡ wave_refused fault) × IsWaveFault bytes fault;
 }
 
--- assembly, the first file or the second of the words: it stands for its sixteen words
+-- Assembly, the first file or the second of the words: it stands for its sixteen words.
 abbrev pub assembly_file : (place : ℕ) → Kind
 assembly_file place = record {
   most = None;

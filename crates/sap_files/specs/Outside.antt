@@ -6,23 +6,24 @@ use Rattle.sap_lines.specs.Stepping.Printed.{MissingOrTooLong}
 use Rattle.sap_files.specs.Contents.{Has}
 use Rattle.sap_files.specs.Asks.{Asks, file, with_the, gives, prints, writes, stops}
 
--- a file holds as much as there is room for
+-- A file holds as much as there is room for.
 abbrev pub FullFile : (name : List ℕ) → Told → Told → Type 0
 FullFile name t n = length (bytes_of n name) ≡ n.room
 
--- channel 1, open before the call, holds as much as there is room for
+-- Channel 1, open before the call, holds as much as there is room for.
 abbrev pub FullOutput : Told → Told → Type 0
 FullOutput t n = t.uses 1 ≡ stream → length (n.written 1) ≡ n.room
 
--- why a file can't be read: it is missing; or so long that its end is never read, where it is read to its end
+-- Why a file can't be read: it is missing; or so long that its end is never read, where it is read to its end.
 abbrev pub IsUnreadable : (most : Option ℕ) → (name : List ℕ) → Told → Type 0
 IsUnreadable None name t = MissingOrLong name t
 IsUnreadable (Some most) name t = t.files name ≡ None
 
--- A file that the command reads can't be read, those before it standing for values; of a stimulus that is printed line by line as much can't be read as tells its
--- refused line; or what the command writes fills the room.
+-- A file that the command reads can't be read, those before it standing for values; of a stimulus that is printed line
+-- by line as much can't be read as tells its refused line; or what the command writes fills the room.
 abbrev pub OutsideOf : Asks → Told → Told → Type 0
-OutsideOf (file name k rest) t n = IsUnreadable k.most name t ⊎ ((v : k.Value) × Has t name k.Stands v × OutsideOf (rest v) t n)
+OutsideOf (file name k rest) t n = IsUnreadable k.most name t
+    ⊎ ((v : k.Value) × Has t name k.Stands v × OutsideOf (rest v) t n)
 OutsideOf (with_the V Holds rest) t n = (v : V) × Holds v × OutsideOf (rest v) t n
 OutsideOf (gives text) t n = FullOutput t n
 OutsideOf (prints name text fault) t n = MissingOrTooLong fault name t ⊎ FullOutput t n

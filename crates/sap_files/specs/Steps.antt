@@ -37,6 +37,7 @@ use Rattle.sap_files.specs.declared.failure.Failure.TheVariants.{Refused, Desk, 
 use Rattle.sap_files.specs.declared.refusal.Refusal.{Refusal}
 use Rattle.sap_files.specs.declared.refusal.Refusal.TheVariants.{Lattice, Design, Part, System, Wires, Stimulus, Module, Taint, Level, Lengths, Input, Wave, Assembly}
 
+-- Why a command is refused, as the definitions have it.
 abbrev pub reason : Refusal → Reason
 reason (Lattice fault) = lattice_refused fault
 reason (Design fault) = design_refused fault
@@ -54,75 +55,83 @@ reason (Assembly place fault) = asm_refused place fault
 
 -- why the bytes of a lattice file, of a design file, of a module file and of a dump end a command
 
+-- How a command fails whose lattice isn't read.
 abbrev pub lattice_failure : LatFileFault → Failure
 lattice_failure lattice_fault.Memory = Memory
 lattice_failure fault = Refused (Lattice fault)
 
+-- How a command fails whose design isn't read.
 abbrev pub read_failure : ReadFault → Failure
 read_failure read_fault.Memory = Memory
 read_failure fault = Refused (Design (design_fault.Read fault))
 
+-- How a command fails whose module isn't read.
 abbrev pub module_failure : ModFault → Failure
 module_failure module_fault.Memory = Memory
 module_failure fault = Refused (Module fault)
 
+-- How a command fails whose module has no room for tags.
 abbrev pub taint_failure : TaintFault → Failure
 taint_failure taint_fault.Memory = Memory
 taint_failure fault = Refused (Taint fault)
 
+-- How a command fails whose dump isn't read.
 abbrev pub wave_failure : WaveFault → Failure
 wave_failure wave_fault.Memory = Memory
 wave_failure fault = Refused (Wave fault)
 
+-- How a command that fails ends.
 abbrev pub ending : Failure → Ending
 ending (Refused why) = refused (reason why)
 ending (Desk name) = failed name.now
 ending (PartFile name) = failed name
 ending Memory = no_memory
 
+-- How a command ends, by its result.
 abbrev pub ending_of : {T : Type 0} → Result T Failure → Ending
 ending_of (Ok x) = done
 ending_of (Err e) = ending e
 
 -- Moments
 
--- what is seen of a desk at one time
+-- What is seen of a desk at one time.
 pub record Moment : Type 1 where
   pub told : Option Told
   pub faults : ℕ
   pub lost : ℕ
   pub sure : Type 0
 
+-- What is seen of a desk at a moment.
 abbrev pub seen : {D : Type 0} → (D → Option Told) → (D → ℕ) → (D → ℕ) → (D → Type 0) → D → Moment
 seen told faults lost sure desk = record { told = told desk; faults = faults desk; lost = lost desk; sure = sure desk }
 
--- nothing changed between them
+-- Nothing changed between them.
 pub record Quiet (before after : Moment) : Type 0 where
   pub told : after.told ≡ before.told
   pub faults : after.faults ≡ before.faults
   pub lost : after.lost ≡ before.lost
   pub sure : before.sure → after.sure
 
--- the count of faults rose, and no call was still to fail by its number
+-- The count of faults rose, and no call was still to fail by its number.
 abbrev pub FaultRose : Moment → Moment → Type 0
 FaultRose before after = (after.faults ≢ before.faults) × before.sure
 
 -- The end of a command
 
--- the count of faults: it rises where a call on a file or on channel 1 failed, and else stands
+-- The count of faults: it rises where a call on a file or on channel 1 failed, and else stands.
 abbrev pub Counted : (faults now : ℕ) → Ending → Type 0
 Counted faults now done = now ≡ faults
 Counted faults now (refused why) = now ≡ faults
 Counted faults now (failed name) = now ≡ counted faults
 Counted faults now no_memory = now ≡ faults
 
--- what no step changes
+-- What no step changes.
 pub record Same (t n : Told) : Type 0 where
   pub lines : n.written 2 ≡ t.written 2
   pub lines_use : n.uses 2 ≡ t.uses 2
   pub room : n.room ≡ t.room
 
--- what a command left that ended so
+-- What a command left that ended so.
 pub record Left (a : Asks) (e : Ending) (rose : Type 0) (t n : Told) : Type 0 where
   pub leaves : Leaves a t n.files e
   pub gained : List ℕ
@@ -134,7 +143,7 @@ pub record Left (a : Asks) (e : Ending) (rose : Type 0) (t n : Told) : Type 0 wh
   pub cause : IsFree e ⊎ Cause a t e
   pub outside : rose → OutsideOf a t n
 
--- a command ended so, and its line isn't written yet
+-- A command ended so, and its line isn't written yet.
 pub record Ends (a : Asks) (e : Ending) (before after : Moment) : Type 0 where
   pub told : Between before.told after.told (Left a e (FaultRose before after))
   pub faults : Counted before.faults after.faults e
@@ -144,14 +153,14 @@ pub record Ends (a : Asks) (e : Ending) (before after : Moment) : Type 0 where
 
 -- Files
 
--- what is open where the file of a name could not be read
+-- What is open where the file of a name could not be read.
 abbrev pub OpensUnread : (most : Option ℕ) → (name : List ℕ) → Ending → Told → (before after : ℕ → Use) → Type 0
 OpensUnread most name done t before after = after ≡ before
 OpensUnread most name (refused why) t before after = after ≡ before
 OpensUnread most name (failed blamed) t before after = (blamed ≡ name) × OpenWithin most name t before after
 OpensUnread most name no_memory t before after = after ≡ before
 
--- a file could not be read: all is as before but the blame, and what a failed call left open
+-- A file could not be read: all is as before but the blame, and what a failed call left open.
 pub record NotRead (most : Option ℕ) (name : List ℕ) (e : Ending) (rose : Type 0) (t n : Told) : Type 0 where
   pub files : n.files ≡ t.files
   pub output : n.written 1 ≡ t.written 1
@@ -160,7 +169,7 @@ pub record NotRead (most : Option ℕ) (name : List ℕ) (e : Ending) (rose : Ty
   pub opens : OpensUnread most name e t t.uses n.uses
   pub outside : rose → IsUnreadable most name t
 
--- and so the command ended
+-- And so the command ended.
 pub record Stops (most : Option ℕ) (name : List ℕ) (e : Ending) (before after : Moment) : Type 0 where
   pub free : IsFree e
   pub told : Between before.told after.told (NotRead most name e (FaultRose before after))
@@ -168,66 +177,74 @@ pub record Stops (most : Option ℕ) (name : List ℕ) (e : Ending) (before afte
   pub lost : after.lost ≡ before.lost
   pub sure : before.sure → after.sure
 
--- a file was read, and has these bytes
+-- A file was read, and has these bytes.
 pub record Reads (name bytes : List ℕ) (before after : Moment) : Type 0 where
   pub quiet : Quiet before after
   pub file : IfSome before.told (λ t. t.files name ≡ Some bytes)
 
+-- The file was read whole, or the command stops there.
 abbrev pub Read : (name : List ℕ) → Result (List ℕ) Failure → Moment → Moment → Type 0
 Read name (Ok bytes) before after = Reads name bytes before after
 Read name (Err e) before after = Stops None name (ending e) before after
 
 -- A design file was read until more bytes were got than a design may have, or its end.
 abbrev pub ReadDesign : (name : List ℕ) → Result (List ℕ) Failure → Moment → Moment → Type 0
-ReadDesign name (Ok front) before after = (bytes : List ℕ) × Reads name bytes before after × IsFront most_bytes bytes front
+ReadDesign name (Ok front) before after = (bytes : List ℕ) × Reads name bytes before after
+    × IsFront most_bytes bytes front
 ReadDesign name (Err e) before after = Stops (Some most_bytes) name (ending e) before after
 
--- the bytes of a file of a kind are refused so, or there was no memory
+-- The bytes of a file of a kind are refused so, or there was no memory.
 abbrev pub Refuses : (k : Kind) → (bytes : List ℕ) → Ending → Type 0
 Refuses k bytes e = (e ≡ no_memory) ⊎ ((why : Reason) × (e ≡ refused why) × k.Refused bytes why)
 
--- what the bytes of a file of a kind give: a value, or why there is none
+-- What the bytes of a file of a kind give: a value, or why there is none.
 abbrev pub Gives : (k : Kind) → {T : Type 0} → (T → k.Value) → (bytes : List ℕ) → Result T Failure → Type 0
 Gives k value bytes (Ok x) = k.Stands bytes (value x)
 Gives k value bytes (Err e) = Refuses k bytes (ending e)
 
--- the levels of a lattice with the table that a lattice file has
+-- The levels of a lattice with the table that a lattice file has.
 abbrev pub whole : Levels → Levels
 whole ls = record { names = ls.names; table = table_by (length ls.names) (order_of ls).le }
 
--- what a module gives to which tags are added: the netlist with tags, or why there is none
+-- What a module gives to which tags are added: the netlist with tags, or why there is none.
 abbrev pub Tags : Levels → Net → Result Net Failure → Type 0
 Tags ls net (Ok tagged) = HasRoomForTags net × HasTaintOf (order_of ls) net tagged
-Tags ls net (Err e) = (ending e ≡ no_memory) ⊎ ((x : List ℕ) × IsClash net x × (ending e ≡ refused (taint_refused (taint_fault.Clash x))))
+Tags ls net (Err e) = (ending e ≡ no_memory)
+    ⊎ ((x : List ℕ) × IsClash net x × (ending e ≡ refused (taint_refused (taint_fault.Clash x))))
 
--- and the text of its module
+-- And the text of its module.
 abbrev pub Taints : Levels → Net → Result (List ℕ) Failure → Type 0
 Taints ls net (Ok text) = HasRoomForTags net × IsTaintedText ls net text
-Taints ls net (Err e) = (ending e ≡ no_memory) ⊎ ((x : List ℕ) × IsClash net x × (ending e ≡ refused (taint_refused (taint_fault.Clash x))))
+Taints ls net (Err e) = (ending e ≡ no_memory)
+    ⊎ ((x : List ℕ) × IsClash net x × (ending e ≡ refused (taint_refused (taint_fault.Clash x))))
 
 -- A file read as one of a kind
 
--- the command ends at a file of a kind: it could not be read, or its bytes are refused
+-- The command ends at a file of a kind: it could not be read, or its bytes are refused.
 abbrev pub EndsReading : (name : List ℕ) → Kind → Ending → Moment → Moment → Type 0
-EndsReading name k e before after = Stops k.most name e before after ⊎ ((bytes : List ℕ) × Reads name bytes before after × Refuses k bytes e)
+EndsReading name k e before after = Stops k.most name e before after
+    ⊎ ((bytes : List ℕ) × Reads name bytes before after × Refuses k bytes e)
 
--- its bytes stand for a value, or the command ends there
-abbrev pub Gets : (name : List ℕ) (k : Kind) → {T : Type 0} → (T → k.Value) → Result T Failure → Moment → Moment → Type 0
+-- Its bytes stand for a value, or the command ends there.
+abbrev pub Gets : (name : List ℕ) (k : Kind) → {T : Type 0} → (T → k.Value) → Result T Failure → Moment
+    → Moment → Type 0
 Gets name k value (Ok x) before after = (bytes : List ℕ) × Reads name bytes before after × k.Stands bytes (value x)
 Gets name k value (Err e) before after = EndsReading name k (ending e) before after
 
--- the same of a lattice file, whose bytes are kept
+-- The same of a lattice file, whose bytes are kept.
 abbrev pub GetsLattice : (name : List ℕ) → Result LatticeFile Failure → Moment → Moment → Type 0
 GetsLattice name (Ok f) before after = Reads name f.bytes before after × IsLatticeFile f.bytes (whole f.lattice)
 GetsLattice name (Err e) before after = EndsReading name lattice_file (ending e) before after
 
--- and of a design file over the levels of a lattice
+-- And of a design file over the levels of a lattice.
 abbrev pub GetsChecked : Levels → (name : List ℕ) → Result Checked Failure → Moment → Moment → Type 0
-GetsChecked ls name (Ok c) before after = (bytes : List ℕ) × Reads name bytes before after × IsWellFormedText ls bytes (tree_in c) × (levels_in c ≡ ls)
+GetsChecked ls name (Ok c) before after = (bytes : List ℕ) × Reads name bytes before after
+    × IsWellFormedText ls bytes (tree_in c) × (levels_in c ≡ ls)
 GetsChecked ls name (Err e) before after = EndsReading name (design_file ls) (ending e) before after
 
 -- A stimulus that is printed
 
--- there is a whole text for each part
+-- There is a whole text for each part.
 abbrev pub HasWhole : ShowsOf → Levels → List Field → Type 0
-HasWhole shows ls fs = (bytes gained : List ℕ) → IsPartShown shows ls fs bytes gained → (whole : List ℕ) × shows (stimulus_of ls fs bytes).stream whole × IsPrefix gained whole
+HasWhole shows ls fs = (bytes gained : List ℕ) → IsPartShown shows ls fs bytes gained → (whole : List ℕ)
+    × shows (stimulus_of ls fs bytes).stream whole × IsPrefix gained whole

@@ -18,14 +18,16 @@ IsWholeStream read bytes stream = read bytes ≡ record { stream = stream; fault
 abbrev pub IsModuleStream : Levels → Net → (bytes : List ℕ) → (stream : List (List Tagged)) → Type 0
 IsModuleStream ls net = IsWholeStream (read_for ls net)
 
--- the text is the rows of a design's run on a stimulus, or on its lines before the first that is refused
+-- The text is the rows of a design's run on a stimulus, or on its lines before the first that is refused.
 abbrev pub AreDesignRows : Levels → DesignTree → (bytes text : List ℕ) → Type 0
 AreDesignRows ls d bytes text = (fault : Option StimFault) × IsRunOf ls d bytes (record { text = text; fault = fault })
 
--- the lines of its trace, likewise
+-- The lines of its trace, likewise.
 abbrev pub AreTraceLines : Levels → DesignTree → (bytes text : List ℕ) → Type 0
-AreTraceLines ls d bytes text = (fault : Option StimFault) × IsTraceOf ls d bytes (record { text = text; fault = fault })
+AreTraceLines ls d bytes text = (fault : Option StimFault)
+    × IsTraceOf ls d bytes (record { text = text; fault = fault })
 
--- and the rows of a module's run
+-- And the rows of a module's run.
 abbrev pub AreModuleRows : Levels → Net → (bytes text : List ℕ) → Type 0
-AreModuleRows ls net bytes text = (fault : Option StimFault) × IsSimulated ls net bytes (record { text = text; fault = fault })
+AreModuleRows ls net bytes text = (fault : Option StimFault)
+    × IsSimulated ls net bytes (record { text = text; fault = fault })

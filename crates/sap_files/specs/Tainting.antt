@@ -12,9 +12,9 @@ use Rattle.sap_taint_pass.specs.declared.fault.TaintFault.TheVariants.{Clash}
 use Rattle.sap_files.specs.Ending.{taint_refused}
 use Rattle.sap_files.specs.Asks.{Asks, writes, stops}
 
--- The netlist has the names and ports of another, each with its tag behind it, tags as wide as codes of levels; it takes what that takes, with tags, and has
--- exactly one run on it, in which names have the numbers of the other's run and tags its taint; codes stay codes; and on streams that agree at a level its
--- runs agree there in every cycle.
+-- The netlist has the names and ports of another, each with its tag behind it, tags as wide as codes of levels; it
+-- takes what that takes, with tags, and has exactly one run on it, in which names have the numbers of the other's run
+-- and tags its taint; codes stay codes; and on streams that agree at a level its runs agree there in every cycle.
 pub record HasTaintOf (o : Order) (net tagged : Net) : Type 0 where
   pub form : HasTaggedForm (width_of o) net tagged
   pub takes : TakesTags (width_of o) net tagged
@@ -23,18 +23,18 @@ pub record HasTaintOf (o : Order) (net tagged : Net) : Type 0 where
   pub codes : TagsStayCodes o net tagged
   pub agree : RunsWithTagsAgree o net tagged
 
--- the text is one of the module with tags
+-- The text is one of the module with tags.
 pub record IsTaintedText (ls : Levels) (net : Net) (text : List ℕ) : Type 0 where
   pub tagged : Net
   pub is_module : IsModule text tagged
   pub taint : HasTaintOf (order_of ls) net tagged
 
--- the first declared name whose tag has no name of its own, where there is one
+-- The first declared name whose tag has no name of its own, where there is one.
 abbrev pub FirstClash : Net → Option (List ℕ) → Type 0
 FirstClash net None = HasRoomForTags net
 FirstClash net (Some x) = IsClash net x
 
--- what is written of a module, by its first clash
+-- What is written of a module, by its first clash.
 abbrev pub tagged_or_refused : Levels → Net → (out : List ℕ) → Option (List ℕ) → Asks
 tagged_or_refused ls net out None = writes out (IsTaintedText ls net)
 tagged_or_refused ls net out (Some x) = stops (taint_refused (Clash x))

@@ -1,5 +1,6 @@
--- The assignments that nested states become. Each state has a wire, its gate, that is set to 1 where its body is done in the cycle, and its body stands
--- once, under this wire and behind all that may fall into it. So has each branch of a choice, since what a test reads may change before the branch ends.
+-- The assignments that nested states become. Each state has a wire, its gate, that is set to 1 where its body is done
+-- in the cycle, and its body stands once, under this wire and behind all that may fall into it. So has each branch of a
+-- choice, since what a test reads may change before the branch ends.
 use Rattle.std.specs.Prelude.{ℕ, ◌+◌, List, [], ◌∷◌, ◌++◌}
 use Rattle.sap_bits.specs.declared.Op2.TheVariants.{Eq}
 use Rattle.sap_maps.specs.Maps.{Name}
@@ -9,29 +10,29 @@ use Rattle.sap_ir.specs.Plain.Nested.{Body, stop, act, cases, goto, fall, Forest
 use Rattle.sap_net.specs.PortNames.{seat_name, root_seat}
 use Rattle.sap_flat.specs.Gates.{gate_name, gate_wires}
 
--- commands, and the number of the next free gate
+-- Commands, and the number of the next free gate.
 pub record Flat : Type 0 where
   pub commands : List Command
   pub next : ℕ
 
--- where the gate j is 1
+-- Where the gate j is 1.
 abbrev pub under : (j : ℕ) → Action → Command
 under j a = record { when = read (gate_name j); act = a }
 
--- whether a number of a width is n
+-- Whether a number of a width is n.
 abbrev pub is_number : Term Name → (width n : ℕ) → Term Name
 is_number t u n = two Eq t (constant u n)
 
--- the register of a group's current state becomes n
+-- The register of a group's current state becomes n.
 abbrev pub seated : (seat : Name) → (group : Forest) → (n : ℕ) → Action
 seated seat group n = set seat (constant (seat_width (size group)) n)
 
--- a state returns to its first child, where it has children
+-- A state returns to its first child, where it has children.
 abbrev pub flat_first : (j : ℕ) → Name → (children : Forest) → List Command
 flat_first j x none = []
 flat_first j x (state y b kids rest) = under j (seated (seat_name x) (state y b kids rest) 0) ∷ []
 
--- each group below the states of a group returns to its first state
+-- Each group below the states of a group returns to its first state.
 abbrev pub flat_restart : (j : ℕ) → Forest → List Command
 flat_restart j none = []
 flat_restart j (state x b kids rest) = flat_first j x kids ++ (flat_restart j kids ++ flat_restart j rest)
@@ -39,9 +40,11 @@ flat_restart j (state x b kids rest) = flat_first j x kids ++ (flat_restart j ki
 -- The commands of a `goto`: the group's register takes the target's number, and the groups below the target start anew.
 abbrev pub flat_goto : (seat : Name) → (group : Forest) → (j : ℕ) → (target : Name) → List Command
 flat_goto seat group j x =
-    let kids = children_of group x in under j (seated seat group (place group x)) ∷ (flat_first j x kids ++ flat_restart j kids)
+    let kids = children_of group x in under j (seated seat group (place group x))
+    ∷ (flat_first j x kids ++ flat_restart j kids)
 
--- The commands of a body under the gate j, in the group of the register `seat`. A fall sets the gate `fell`, and those from k on are free.
+-- The commands of a body under the gate j, in the group of the register `seat`. A fall sets the gate `fell`, and those
+-- from k on are free.
 abbrev pub flat_body : (seat : Name) → (group : Forest) → (fell : ℕ) → Body → (j k : ℕ) → Flat
 flat_body seat group fell stop j k = record { commands = []; next = k }
 flat_body seat group fell (act a rest) j k =
@@ -57,7 +60,8 @@ flat_body seat group fell (cases t then_part else_part rest) j k =
       next = r.next;
     }
 flat_body seat group fell (goto x rest) j k =
-    let r = flat_body seat group fell rest j k in record { commands = flat_goto seat group j x ++ r.commands; next = r.next }
+    let r = flat_body seat group fell rest j k in
+    record { commands = flat_goto seat group j x ++ r.commands; next = r.next }
 flat_body seat group fell (fall rest) j k =
     let r = flat_body seat group fell rest j k in
     record { commands = under j (set (gate_name fell) (constant 1 1)) ∷ r.commands; next = r.next }
@@ -77,7 +81,8 @@ flat_group seat group (state x b kids rest) j k =
     let r = flat_group seat group rest (j + 1) c.next in
     record {
       commands =
-          (d.commands ++ (flat_gates (read (gate_name k)) (seat_name x) (seat_width (size kids)) kids 0 (k + 1) ++ c.commands))
+          (d.commands ++ (flat_gates (read (gate_name k)) (seat_name x) (seat_width (size kids)) kids 0
+          (k + 1) ++ c.commands))
           ++ r.commands;
       next = r.next;
     }

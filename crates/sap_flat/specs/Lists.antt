@@ -30,9 +30,10 @@ place_in ss x = place (forest_of ss) x
 unfoldable pub goto_commands : (seat : Name) → List PlainState → (j : ℕ) → Name → List Command
 goto_commands seat ss j x = flat_goto seat (forest_of ss) j x
 
--- the two gates of a choice
+-- The two gates of a choice.
 unfoldable pub choice_commands : (j : ℕ) → Term Name → (first second : ℕ) → List Command
-choice_commands j t a b = under j (set (gate_name a) t) ∷ under j (set (gate_name b) (is_number (read (gate_name a)) 1 0)) ∷ []
+choice_commands j t a b = under j (set (gate_name a) t)
+    ∷ under j (set (gate_name b) (is_number (read (gate_name a)) 1 0)) ∷ []
 
 -- The commands of stored commands.
 unfoldable pub commands_flat : (seat : Name) → List PlainState → (fell : ℕ) → List PlainCmd → (j k : ℕ) → Flat
@@ -43,7 +44,8 @@ unfoldable pub command_flat : (seat : Name) → List PlainState → (fell : ℕ)
 command_flat seat ss fell c j k = flat_body seat (forest_of ss) fell (command_before c stop) j k
 
 -- The commands of the gates of a group.
-unfoldable pub gates_commands : (when : Term Name) → (seat : Name) → (width : ℕ) → List PlainState → (i j : ℕ) → List Command
+unfoldable pub gates_commands : (when : Term Name) → (seat : Name) → (width : ℕ) → List PlainState
+    → (i j : ℕ) → List Command
 gates_commands c seat u ss i j = flat_gates c seat u (forest_of ss) i j
 
 -- The commands of stored states.

@@ -9,7 +9,7 @@ use Rattle.sap_ir.specs.Plain.Nested.{Nested}
 use Rattle.sap_ir.specs.Plain.Does.{plain_run}
 use Rattle.sap_ir.specs.Plain.IsPlain.{is_gate}
 
--- a wire of one bit whose name is a `g` and digits
+-- A wire of one bit whose name is a `g` and digits.
 abbrev pub IsGate : Var → Type 0
 IsGate x = (is_gate x.name ≡ true) × (x.width ≡ 1)
 
@@ -21,7 +21,7 @@ pub record Declares (p : Nested) (s : Source) : Type 0 where
   pub ports : s.ports ≡ p.ports
   pub wires : (gates : List Var) × (s.wires ≡ p.wires ++ gates) × AllByRecursion IsGate gates
 
--- equal numbers of all registers, wires and memories of the nested states
+-- Equal numbers of all registers, wires and memories of the nested states.
 pub record SameNumbers (p : Nested) (v w : Valuation) : Type 0 where
   pub registers : AllByRecursion (λ x. v.value x.name ≡ w.value x.name) p.registers
   pub wires : AllByRecursion (λ x. v.value x.name ≡ w.value x.name) p.wires

@@ -15,24 +15,24 @@ use Rattle.sap_fold.specs.declared.rules.Outcome.TheVariants.{Keep, First, Secon
 abbrev pub is_one_of : (o a b : Operand) → Bool
 is_one_of o a b = same_operand a o || same_operand b o
 
--- one of two operands is o, and the other 0
+-- One of two operands is o, and the other 0.
 abbrev pub is_or_zero : (o a b : Operand) → Bool
 is_or_zero o a b = same_operand a o && is_number b 0 || same_operand b o && is_number a 0
 
--- x & o, where x has the right side r: x for x = o & y, and o for x = o | y
+-- `x` & o, where x has the right side r: x for x = o & y, and o for x = o | y.
 abbrev pub absorbed_and : Right → Operand → Outcome
 absorbed_and (Two And a b) o = if is_one_of o a b then First else Keep
 absorbed_and (Two Or a b) o = if is_one_of o a b then Second else Keep
 absorbed_and r o = Keep
 
--- x | o, where x has the right side r: x for x = o | y, and o for x = o & y or a choice between o and 0
+-- `x` | o, where x has the right side r: x for x = o | y, and o for x = o & y or a choice between o and 0.
 abbrev pub absorbed_or : Right → Operand → Outcome
 absorbed_or (Two Or a b) o = if is_one_of o a b then First else Keep
 absorbed_or (Two And a b) o = if is_one_of o a b then Second else Keep
 absorbed_or (Choose c a b) o = if is_or_zero o a b then Second else Keep
 absorbed_or r o = Keep
 
--- the operator on a and b is a or b, where the outcome says so
+-- The operator on a and b is a or b, where the outcome says so.
 abbrev pub Absorbs : List Wire → Op2 → (a b : Operand) → Outcome → Type 0
 Absorbs ws op a b First = (u : ℕ) → Equals ws u (Two op a b) (Copy a)
 Absorbs ws op a b Second = (u : ℕ) → Equals ws u (Two op a b) (Copy b)

@@ -16,6 +16,7 @@ pub record Over (memories : Shapes) (sc : Scope) (ws : List Wire) (widths : Name
 
 -- Where a is a right side of width u behind the wires, so is b, and both have the same value.
 pub record Equals (ws : List Wire) (u : ℕ) (a b : Right) : Type 0 where
-  pub fits : (memories : Shapes) (sc : Scope) → AreWires memories sc ws → IsRight memories (readable_after sc ws) u a → IsRight memories (readable_after sc ws) u b
+  pub fits : (memories : Shapes) (sc : Scope) → AreWires memories sc ws
+      → IsRight memories (readable_after sc ws) u a → IsRight memories (readable_after sc ws) u b
   pub same : (memories : Shapes) (sc : Scope) (widths : Name → ℕ) (v : Valuation) → Over memories sc ws widths v
       → IsRight memories (readable_after sc ws) u a → right_value widths v a ≡ right_value widths v b

@@ -1,5 +1,5 @@
--- The table of the rules by which right sides fold. A rule of each operator on two operands says when it is its first or second operand, or a number; the
--- first rule that fits counts.
+-- The table of the rules by which right sides fold. A rule of each operator on two operands says when it is its first
+-- or second operand, or a number; the first rule that fits counts.
 use Rattle.std.specs.Prelude.{ℕ, ◌-◌, ◌^◌, ◌==◌, ◌&&◌, ◌||◌, nat_le, Bool, true, false, bytes_eq, if◌then◌else◌}
 use Rattle.sap_bits.specs.Arithmetic.{value1, value2}
 use Rattle.sap_bits.specs.declared.Op1.{Op1}
@@ -31,16 +31,16 @@ abbrev pub is_number : Operand → ℕ → Bool
 is_number (Named x) n = false
 is_number (Constant w m) n = m == n
 
--- a number of one bit
+-- A number of one bit.
 abbrev pub is_bit : Operand → ℕ → Bool
 is_bit (Named x) n = false
 is_bit (Constant w m) n = w == 1 && m == n
 
--- a width, and a number within it
+-- A width, and a number within it.
 abbrev pub fits : (w n : ℕ) → Bool
 fits w n = nat_le 1 w && nat_le w 64 && nat_le n (2 ^ w - 1)
 
--- all bits 1
+-- All bits 1.
 abbrev pub is_full : Operand → Bool
 is_full (Named x) = false
 is_full (Constant w n) = fits w n && n == 2 ^ w - 1
@@ -52,7 +52,7 @@ same_operand (Named x) (Constant w n) = false
 same_operand (Constant w n) (Named y) = false
 same_operand (Constant w n) (Constant u m) = w == u && n == m
 
--- an operator on a constant
+-- An operator on a constant.
 abbrev pub fold_one : Op1 → Operand → Outcome
 fold_one op (Named x) = Keep
 fold_one op (Constant w n) = if fits w n then Number (value1 op w n) else Keep
@@ -63,7 +63,7 @@ is_second Shl w n = true
 is_second Shr w n = true
 is_second _ w n = fits w n
 
--- an operator on two constants
+-- An operator on two constants.
 abbrev pub fold_constants : Op2 → Operand → Operand → Outcome
 fold_constants op (Constant w n) (Constant u m) =
     if fits w n && is_second op w m then Number (value2 op w n m) else Keep
@@ -73,12 +73,14 @@ fold_constants op (Constant w n) (Named y) = Keep
 -- What the conjunction of two operands is, where it is known.
 abbrev pub fold_and : Operand → Operand → Outcome
 fold_and a b =
-    if is_number b 0 || is_full a then Second else if is_number a 0 || is_full b || same_operand a b then First else Keep
+    if is_number b 0 || is_full a then Second
+    else if is_number a 0 || is_full b || same_operand a b then First else Keep
 
 -- What the disjunction of two operands is, where it is known.
 abbrev pub fold_or : Operand → Operand → Outcome
 fold_or a b =
-    if is_number b 0 || is_full a || same_operand a b then First else if is_number a 0 || is_full b then Second else Keep
+    if is_number b 0 || is_full a || same_operand a b then First
+    else if is_number a 0 || is_full b then Second else Keep
 
 -- What the exclusive disjunction of two operands is, where it is known.
 abbrev pub fold_xor : Operand → Operand → Outcome
@@ -98,27 +100,27 @@ abbrev pub fold_mul : Operand → Operand → Outcome
 fold_mul a b =
     if is_number b 0 || is_number a 1 then Second else if is_number a 0 || is_number b 1 then First else Keep
 
--- `==` of equal operands, and of a bit with a number
+-- `==` of equal operands, and of a bit with a number.
 abbrev pub fold_equal : Operand → Operand → Outcome
 fold_equal a b =
     if same_operand a b then Number 1 else if is_bit b 1 then First else if is_bit a 1 then Second
     else if is_bit b 0 then NotFirst else if is_bit a 0 then NotSecond else Keep
 
--- `!=` of equal operands, and of a bit with a number
+-- `!=` of equal operands, and of a bit with a number.
 abbrev pub fold_unequal : Operand → Operand → Outcome
 fold_unequal a b =
     if same_operand a b then Number 0 else if is_bit b 0 then First else if is_bit a 0 then Second
     else if is_bit b 1 then NotFirst else if is_bit a 1 then NotSecond else Keep
 
--- `<`: nothing is below 0, and nothing above all ones
+-- `<`: nothing is below 0, and nothing above all ones.
 abbrev pub fold_less : Operand → Operand → Outcome
 fold_less a b = if is_number b 0 || is_full a || same_operand a b then Number 0 else Keep
 
--- `<=`
+-- `<=`.
 abbrev pub fold_at_most : Operand → Operand → Outcome
 fold_at_most a b = if is_number a 0 || is_full b || same_operand a b then Number 1 else Keep
 
--- a shift of a number of width w
+-- A shift of a number of width w.
 abbrev pub fold_shift : (w : ℕ) → Operand → Operand → Outcome
 fold_shift w a (Named y) = if is_number a 0 then First else Keep
 fold_shift w a (Constant u m) = if m == 0 || is_number a 0 then First else if nat_le w m then Number 0 else Keep
@@ -142,13 +144,14 @@ fold_operator w Shr a b = fold_shift w a b
 abbrev pub fold_two : (w : ℕ) → Op2 → Operand → Operand → Outcome
 fold_two w op a b = or_else (fold_constants op a b) (fold_operator w op a b)
 
--- a choice between bits of which one is a number: `c ? 1 : 0` is c, `c ? 0 : 1` is ~c, `c ? a : 0` is c & a, `c ? 1 : b` is c | b
+-- A choice between bits of which one is a number: `c ? 1 : 0` is c, `c ? 0 : 1` is ~c, `c ? a : 0` is c & a, `c ? 1 :
+-- b` is c | b.
 abbrev pub fold_choose_bit : (a b : Operand) → Outcome
 fold_choose_bit a b =
     if is_number a 1 && is_number b 0 then Condition else if is_number a 0 && is_number b 1 then NotCondition
     else if is_number b 0 then ConditionAndFirst else if is_number a 1 then ConditionOrSecond else Keep
 
--- a choice by a constant, between equal arms, or between bits
+-- A choice by a constant, between equal arms, or between bits.
 abbrev pub fold_choose : (w : ℕ) → (c a b : Operand) → Outcome
 fold_choose w c a b =
     if is_number c 0 then Second else if is_number c 1 || same_operand a b then First
@@ -180,13 +183,14 @@ of_choose c a b ConditionAndFirst = Two And c a
 of_choose c a b ConditionOrSecond = Two Or c b
 of_choose c a b _ = Choose c a b
 
--- a right side folded, at its width w
+-- A right side folded, at its width w.
 abbrev pub folded : (w : ℕ) → Right → Right
 folded w (One op a) = of_one w op a (fold_one op a)
 folded w (Two op a b) = of_two w op a b (fold_two w op a b)
 folded w (Choose c a b) = of_choose c a b (fold_choose w c a b)
 folded w r = r
 
--- A right side folded until the table folds it no further: a choice may become an operator on two operands, that one on one operand, and that a number.
+-- A right side folded until the table folds it no further: a choice may become an operator on two operands, that one on
+-- one operand, and that a number.
 abbrev pub settled : (w : ℕ) → Right → Right
 settled w r = folded w (folded w (folded w r))

@@ -20,11 +20,12 @@ pub record Numbers (taken : Name → Bool) (ws : List Wire) (next : ℕ) : Type 
   pub small : next < 2 ^ 64
   pub each : Each taken ws next
 
--- a name that is not taken is new to the scope and to the memories
+-- A name that is not taken is new to the scope and to the memories.
 abbrev pub TakenApart : (taken : Name → Bool) → Shapes → Scope → Type 0
 TakenApart taken ms sc = (n : Name) → taken n ≡ false → (find sc n ≡ None) × (find ms n ≡ None)
 
--- What is known of the wires before: they fit behind the scope, their names are numbered, a name that isn't taken is new, and u is a width.
+-- What is known of the wires before: they fit behind the scope, their names are numbered, a name that isn't taken is
+-- new, and u is a width.
 pub record Stand (taken : Name → Bool) (ms : Shapes) (sc : Scope) (ws : List Wire) (next u : ℕ) : Type 0 where
   pub apart : TakenApart taken ms sc
   pub named : Numbers taken ws next
@@ -32,18 +33,23 @@ pub record Stand (taken : Name → Bool) (ms : Shapes) (sc : Scope) (ws : List W
   pub wide : IsWidth u
 
 -- What is known of wires to which a right side was added: the operand that stands for it is over them.
-pub record Provided (taken : Name → Bool) (ms : Shapes) (sc : Scope) (ws : List Wire) (u : ℕ) (o : Operand) (after : List Wire) (next_after : ℕ) : Type 0 where
+pub record Provided (taken : Name → Bool) (ms : Shapes) (sc : Scope) (ws : List Wire) (u : ℕ)
+    (o : Operand) (after : List Wire) (next_after : ℕ) : Type 0 where
   pub fits : AreWires ms sc after
   pub named : Numbers taken after next_after
   pub more : List Wire
   pub wires : after ≡ ws ++ more
   pub operand : IsOperand (readable_after sc after) u o
 
--- Wherever r is a right side of width u behind the wires, o is an operand behind those after, the same ones and perhaps more, and has its value.
-pub record Gives (taken : Name → Bool) (ws : List Wire) (next u : ℕ) (r : Right) (o : Operand) (after : List Wire) (next_after : ℕ) : Type 0 where
-  pub fits : (memories : Shapes) (sc : Scope) → Stand taken memories sc ws next u → IsRight memories (readable_after sc ws) u r → Provided taken memories sc ws u o after next_after
+-- Wherever r is a right side of width u behind the wires, o is an operand behind those after, the same ones and perhaps
+-- more, and has its value.
+pub record Gives (taken : Name → Bool) (ws : List Wire) (next u : ℕ) (r : Right) (o : Operand)
+    (after : List Wire) (next_after : ℕ) : Type 0 where
+  pub fits : (memories : Shapes) (sc : Scope) → Stand taken memories sc ws next u
+      → IsRight memories (readable_after sc ws) u r → Provided taken memories sc ws u o after next_after
   pub same : (memories : Shapes) (sc : Scope) (widths : Name → ℕ) (v : Valuation) → Stand taken memories sc ws next u
-      → IsRight memories (readable_after sc ws) u r → Over memories sc after widths v → right_value widths v r ≡ operand_value v o
+      → IsRight memories (readable_after sc ws) u r → Over memories sc after widths v
+      → right_value widths v r ≡ operand_value v o
 
 -- The wires after are the same ones and perhaps more.
 pub record Grown (taken : Name → Bool) (ms : Shapes) (sc : Scope) (ws after : List Wire) (next_after : ℕ) : Type 0 where
@@ -53,14 +59,19 @@ pub record Grown (taken : Name → Bool) (ms : Shapes) (sc : Scope) (ws after : 
   pub wires : after ≡ ws ++ more
 
 -- Wherever a is a right side of width u behind the wires, b is one behind those after, and has its value.
-pub record Becomes (taken : Name → Bool) (ws : List Wire) (next u : ℕ) (a b : Right) (after : List Wire) (next_after : ℕ) : Type 0 where
-  pub grown : (memories : Shapes) (sc : Scope) → Stand taken memories sc ws next u → IsRight memories (readable_after sc ws) u a → Grown taken memories sc ws after next_after
-  pub fits : (memories : Shapes) (sc : Scope) → Stand taken memories sc ws next u → IsRight memories (readable_after sc ws) u a → IsRight memories (readable_after sc after) u b
+pub record Becomes (taken : Name → Bool) (ws : List Wire) (next u : ℕ) (a b : Right) (after : List Wire)
+    (next_after : ℕ) : Type 0 where
+  pub grown : (memories : Shapes) (sc : Scope) → Stand taken memories sc ws next u
+      → IsRight memories (readable_after sc ws) u a → Grown taken memories sc ws after next_after
+  pub fits : (memories : Shapes) (sc : Scope) → Stand taken memories sc ws next u
+      → IsRight memories (readable_after sc ws) u a → IsRight memories (readable_after sc after) u b
   pub same : (memories : Shapes) (sc : Scope) (widths : Name → ℕ) (v : Valuation) → Stand taken memories sc ws next u
-      → IsRight memories (readable_after sc ws) u a → Over memories sc after widths v → right_value widths v a ≡ right_value widths v b
+      → IsRight memories (readable_after sc ws) u a → Over memories sc after widths v
+      → right_value widths v a ≡ right_value widths v b
 
 -- Where the bit c has the number n, the operand a of width u has the value of p behind the wires after.
-pub record ArmGives (taken : Name → Bool) (ws : List Wire) (next u : ℕ) (c : Operand) (n : ℕ) (a p : Operand) (after : List Wire) (next_after : ℕ) : Type 0 where
+pub record ArmGives (taken : Name → Bool) (ws : List Wire) (next u : ℕ) (c : Operand) (n : ℕ)
+    (a p : Operand) (after : List Wire) (next_after : ℕ) : Type 0 where
   pub fits : (memories : Shapes) (sc : Scope) → Stand taken memories sc ws next u → IsOperand (readable_after sc ws) 1 c
       → IsOperand (readable_after sc ws) u a → Provided taken memories sc ws u p after next_after
   pub same : (memories : Shapes) (sc : Scope) (widths : Name → ℕ) (v : Valuation) → Stand taken memories sc ws next u

@@ -10,7 +10,7 @@ use Rattle.sap_net.specs.declared.parts.Operand.TheVariants.{Named, Constant}
 use Rattle.sap_fold.specs.Folding.{same_operand}
 use Rattle.sap_fold.specs.Under.{bit}
 
--- o is the number a in front of the number b
+-- `o` is the number a in front of the number b.
 pub record Glues (a b o : Operand) : Type 0 where
   pub u : ℕ
   pub m : ℕ
@@ -30,25 +30,26 @@ pub record GluesLast (xs : List Operand) (p : Operand) (ys : List Operand) : Typ
   pub glues : Glues last p both
   pub after : ys ≡ init ++ both ∷ []
 
--- p stands behind xs, or is part of the last one
+-- `p` stands behind xs, or is part of the last one.
 abbrev pub AddsPart : (xs : List Operand) → Operand → (ys : List Operand) → Type 0
 AddsPart xs p ys = (ys ≡ xs ++ p ∷ []) ⊎ GluesLast xs p ys
 
--- the operand o, or the value of the bit c, if it is that
+-- The operand o, or the value of the bit c, if it is that.
 abbrev pub put : (c : Operand) → Bool → Operand → Operand
 put c t o = if same_operand o c then bit t else o
 
 -- Where the bit c has the number n, the parts ps have the value of os together.
 pub record SameParts (c : Operand) (n : ℕ) (os ps : List Operand) : Type 0 where
   pub fits : (sc : Scope) (w : ℕ) → IsOperand sc 1 c → AreOperands sc w os → AreOperands sc w ps
-  pub same : (sc : Scope) (widths : Name → ℕ) (v : Valuation) (w : ℕ) → WidthsAre sc widths → IsOperand sc 1 c → AreOperands sc w os
+  pub same : (sc : Scope) (widths : Name → ℕ) (v : Valuation) (w : ℕ) → WidthsAre sc widths
+      → IsOperand sc 1 c → AreOperands sc w os
       → operand_value v c ≡ n → operands_value widths v os ≡ operands_value widths v ps
 
--- they are the one operand p
+-- They are the one operand p.
 abbrev pub Whole : (c : Operand) (n : ℕ) → List Operand → Operand → Type 0
 Whole c n os p = SameParts c n os (p ∷ [])
 
--- the bit between two bits a and b, by a bit c
+-- The bit between two bits a and b, by a bit c.
 abbrev pub between : (c : Operand) → (a b : Bool) → Option Operand
 between c true true = Some (bit true)
 between c false false = Some (bit false)
@@ -67,5 +68,6 @@ bit_test n place = n / 2 ^ place % 2 == 1
 -- The parts have the bits from k up to w of a where the bit c is 1, and of b where it is 0.
 pub record Between (c : Operand) (k w a b : ℕ) (ps : List Operand) : Type 0 where
   pub fits : (sc : Scope) → IsOperand sc 1 c → AreOperands sc (w - k) ps
-  pub same : (sc : Scope) (widths : Name → ℕ) (v : Valuation) → WidthsAre sc widths → IsOperand sc 1 c → operand_value v c < 2 ^ 1
+  pub same : (sc : Scope) (widths : Name → ℕ) (v : Valuation) → WidthsAre sc widths → IsOperand sc 1 c
+      → operand_value v c < 2 ^ 1
       → a < 2 ^ w → b < 2 ^ w → operands_value widths v ps ≡ (if operand_value v c == 0 then b / 2 ^ k else a / 2 ^ k)

@@ -6,7 +6,7 @@ use Rattle.sap_net.specs.declared.parts.Right.{Right}
 use Rattle.sap_net.specs.declared.parts.Wire.{Wire}
 use Rattle.sap_fold.specs.Wires.{HasWire}
 
--- the operand names one of the wires, whose right side is r
+-- The operand names one of the wires, whose right side is r.
 pub record Defines (ws : List Wire) (o : Operand) (r : Right) : Type 0 where
   pub wire : Wire
   pub has : HasWire ws wire.name wire

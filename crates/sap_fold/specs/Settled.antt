@@ -17,7 +17,8 @@ abbrev pub is_copy : Right → Bool
 is_copy (Copy a) = true
 is_copy _ = false
 
--- Wires that differ, fold no further and are no copies, and the map from their right sides to the numbers in their names.
+-- Wires that differ, fold no further and are no copies, and the map from their right sides to the numbers in their
+-- names.
 pub record Orderly (numbers : RightMap) (ws : List Wire) : Type 0 where
   pub names : NamesRights numbers ws
   pub differ : AllDiffer ws

@@ -15,7 +15,7 @@ use Rattle.sap_net.specs.declared.parts.Wire.{Wire}
 use Rattle.sap_fold.specs.Equals.{Over}
 use Rattle.sap_fold.specs.Folding.{same_operand, is_number}
 
--- the number of a bit
+-- The number of a bit.
 abbrev pub number : Bool → ℕ
 number true = 1
 number false = 0
@@ -24,33 +24,34 @@ number false = 0
 abbrev pub bit : Bool → Operand
 bit t = Constant 1 (number t)
 
--- the other one of two operands, if one of them is c
+-- The other one of two operands, if one of them is c.
 abbrev pub other : (c a b : Operand) → Option Operand
 other c a b = if same_operand a c then Some b else if same_operand b c then Some a else None
 
--- a choice by d, where c has the value t
+-- A choice by d, where c has the value t.
 abbrev pub chosen : (c : Operand) → (t : Bool) → (d a b : Operand) → Option Operand
 chosen c t d a b = if same_operand d c then Some (if t then a else b) else None
 
--- the value t, where it decides, else the other operand
+-- The value t, where it decides, else the other operand.
 abbrev pub decided : (t decides : Bool) → Option Operand → Option Operand
 decided t d None = None
 decided t d (Some o) = Some (if d then bit t else o)
 
--- what a right side is where the bit c has the value t, if c is among its operands: `&` with 0 is 0, `&` with 1 the other operand, and so on
+-- What a right side is where the bit c has the value t, if c is among its operands: `&` with 0 is 0, `&` with 1 the
+-- other operand, and so on.
 abbrev pub right_under : (c : Operand) → (t : Bool) → Right → Option Operand
 right_under c t (Choose d a b) = chosen c t d a b
 right_under c t (Two And a b) = decided t (not t) (other c a b)
 right_under c t (Two Or a b) = decided t t (other c a b)
 right_under c t _ = None
 
--- an operator of one bit has the value t only where both operands have it
+-- An operator of one bit has the value t only where both operands have it.
 abbrev pub tells : Op2 → Bool → Bool
 tells And t = t
 tells Or t = not t
 tells _ t = false
 
--- a choice between the bits a and b has the value t only by b, as a is 0; only by a, as b is 1
+-- A choice between the bits a and b has the value t only by b, as a is 0; only by a, as b is 1.
 abbrev pub only_second : (t : Bool) → (a : Operand) → Bool
 only_second t a = t && is_number a 0
 
@@ -69,16 +70,16 @@ IsBitwise And = Unit {0}
 IsBitwise Or = Unit {0}
 IsBitwise _ = ⊥
 
--- `&` of a, the negation of a bit d, and another operand b, as a choice by d; `|` of them
+-- `&` of a, the negation of a bit d, and another operand b, as a choice by d; `|` of them.
 abbrev pub chosen_by : Op2 → (a d b : Operand) → Right
 chosen_by And a d b = Choose d (bit false) b
 chosen_by op a d b = Two op a b
 
--- a choice between 0 and c
+-- A choice between 0 and c.
 abbrev pub is_masked : (c a b : Operand) → Bool
 is_masked c a b = is_number a 0 && same_operand b c
 
--- what a choice by d between 0 and c is, where c has the value t
+-- What a choice by d between 0 and c is, where c has the value t.
 abbrev pub masked_right : (t : Bool) → (d : Operand) → Right
 masked_right true d = One Not d
 masked_right false d = Copy (bit false)
@@ -88,4 +89,5 @@ pub record Under (ws : List Wire) (c : Operand) (n : ℕ) (a : Operand) (r : Rig
   pub fits : (memories : Shapes) (sc : Scope) (u : ℕ) → AreWires memories sc ws → IsOperand (readable_after sc ws) 1 c
       → IsOperand (readable_after sc ws) u a → IsRight memories (readable_after sc ws) u r
   pub same : (memories : Shapes) (sc : Scope) (widths : Name → ℕ) (v : Valuation) (u : ℕ) → Over memories sc ws widths v
-      → IsOperand (readable_after sc ws) 1 c → IsOperand (readable_after sc ws) u a → operand_value v c ≡ n → operand_value v a ≡ right_value widths v r
+      → IsOperand (readable_after sc ws) 1 c → IsOperand (readable_after sc ws) u a
+      → operand_value v c ≡ n → operand_value v a ≡ right_value widths v r

@@ -13,7 +13,7 @@ use Rattle.sap_tree.specs.declared.syntax.Kind.TheVariants.{Dynamic}
 use Rattle.sap_tree.specs.declared.syntax.Numeral.{Numeral}
 use Rattle.sap_tree.specs.declared.version.Version.TheVariants.{One}
 
--- how many registers and states it has
+-- How many registers and states it has.
 abbrev pub register_count : ℕ → ℕ
 register_count n = 2 + n % 60
 
@@ -21,7 +21,7 @@ register_count n = 2 + n % 60
 abbrev pub state_count : ℕ → ℕ
 state_count n = 1 + n % 31
 
--- d; x0, x1, ..; S0, S1, ..
+-- The name of the input, `d`.
 abbrev pub input_name : List ℕ
 input_name = codes "d"
 
@@ -33,31 +33,31 @@ register_name i = codes "x" ++ decimal i
 abbrev pub state_name : ℕ → List ℕ
 state_name j = codes "S" ++ decimal j
 
--- the one width
+-- The one width.
 abbrev pub eight_bits : Numeral
 eight_bits = numeral 8
 
--- input d : 8;
+-- The declaration `input d : 8;`.
 abbrev pub declared_input : Decl
 declared_input = Input nowhere (named input_name) eight_bits
 
--- xI is dynamic where I is even, and else enforced at a
+-- `xI` is dynamic where I is even, and else enforced at a.
 abbrev pub register_kind : (i : ℕ) → Kind
 register_kind i = if i % 2 == 0 then Dynamic nowhere else enforced (codes "a")
 
--- reg xI : 8 KIND;
+-- The declaration `reg xI : 8 KIND;`.
 abbrev pub declared_register : (i : ℕ) → Decl
 declared_register i = Register nowhere (named (register_name i)) eight_bits (register_kind i) None
 
--- xK + d
+-- `xK` + d.
 abbrev pub sum : (k : ℕ) → Expression
 sum k = binary_of no_spot Add (read (register_name k)) (read input_name)
 
--- of r registers, in the state Sj: xI := xK + d; with K = (i + j) mod r
+-- The assignment to register i, of r registers, in state SJ: `xI := xK + d;` with K = (I + J) mod r.
 abbrev pub assignment : (r j i : ℕ) → Command
 assignment r j i = lone (assign (named (register_name i)) (sum ((i + j) % r)))
 
--- of t states, in the state Sj: goto SM; with M = (j + 1) mod t
+-- Of t states, in the state Sj: goto SM; with M = (j + 1) mod t.
 abbrev pub transfer : (t j : ℕ) → Command
 transfer t j = lone (go_to nowhere (named (state_name ((j + 1) % t))))
 
@@ -65,11 +65,11 @@ transfer t j = lone (go_to nowhere (named (state_name ((j + 1) % t))))
 abbrev pub body : (r t j : ℕ) → CommandBlock
 body r t j = block (map (assignment r j) (numbers r) ++ transfer t j ∷ [])
 
--- state SJ enforced low { an assignment to each register, and the goto }
+-- The state `state SJ enforced low { .. }`, with an assignment to each register and the `goto`.
 abbrev pub state : (r t j : ℕ) → StateTree
 state r t j = state_node nowhere (named (state_name j)) (enforced (codes "low")) (body r t j) no_state
 
--- with r registers and t states
+-- With r registers and t states.
 abbrev pub design_of_counts : (r t : ℕ) → DesignTree
 design_of_counts r t = record {
   version = One;

@@ -17,6 +17,6 @@ OfTwo = generated_text 2
     ≡ line (codes "gen 2: 4 registers, 3 states, 8 cycles, 10 refusals")
     ++ line (codes "cycle 8: x0=231@a x1=189@a x2=93@a x3=17@a")
 
--- the size of the run of 1000
+-- The size of the run of 1000.
 abbrev pub LargestSize : Type 0
 LargestSize = (register_count 1000 ≡ 42) × (state_count 1000 ≡ 9) × (cycle_count 1000 ≡ 4000)

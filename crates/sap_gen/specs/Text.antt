@@ -12,15 +12,15 @@ use Rattle.sap_lattice.specs.Diamond.{diamond}
 use Rattle.sap_gen.specs.Design.{register_count, state_count, generated_design}
 use Rattle.sap_gen.specs.Stream.{cycle_count, generated_stream}
 
--- the labelled run of the generated design over a lattice
+-- The labelled run of the generated design over a lattice.
 abbrev pub generated_run : Levels → (n : ℕ) → List After
 generated_run ls n = labelled_run (program_of ls (generated_design n)) (generated_stream n)
 
--- how many check sites were refused in all cycles
+-- How many check sites were refused in all cycles.
 abbrev pub refusal_count : List After → ℕ
 refusal_count run = sum_by (λ a. length a.refused) run
 
--- gen N: R registers, T states, C cycles, K refusals
+-- Gen N: R registers, T states, C cycles, K refusals.
 abbrev pub summary : (n refusals : ℕ) → List ℕ
 summary n refusals =
     codes "gen " ++ decimal n
@@ -30,16 +30,16 @@ summary n refusals =
     ++ codes " cycles, " ++ decimal refusals
     ++ codes " refusals" ++ 10 ∷ []
 
--- the row of a cycle that a run has
+-- The row of a cycle that a run has.
 abbrev pub row_shown : Levels → Named → (cycle : ℕ) → Option After → List ℕ
 row_shown ls d cycle None = []
 row_shown ls d cycle (Some a) = labelled_row ls d cycle a.store
 
--- cycles are counted from 1
+-- Cycles are counted from 1.
 abbrev pub row_of_cycle : Levels → Named → (cycle : ℕ) → List After → List ℕ
 row_of_cycle ls d cycle run = row_shown ls d cycle (slice_get run (cycle - 1))
 
--- over a lattice
+-- Over a lattice.
 abbrev pub text_over : Levels → (n : ℕ) → List ℕ
 text_over ls n =
     let run = generated_run ls n in

@@ -1,5 +1,6 @@
--- What hangs on the points of a design and on the root: what the commands that the points are touch, and what the root's fall touches. Points are
--- numbered from 1 and entities from 0; on a number that is no point nothing hangs, and a number that is no entity hangs nowhere.
+-- What hangs on the points of a design and on the root: what the commands that the points are touch, and what the
+-- root's fall touches. Points are numbered from 1 and entities from 0; on a number that is no point nothing hangs, and
+-- a number that is no entity hangs nowhere.
 use Rattle.std.specs.Prelude.{◌≡◌, ℕ, zero, suc, Bool, false, List, Option, Some, None, slice_get, unwrap_or}
 use Rattle.sap_tree.specs.declared.syntax.Decl.{Decl}
 use Rattle.sap_tree.specs.Syntax.{DesignTree}
@@ -29,11 +30,11 @@ root_touches_entity d (Some e) = root_touches d e.name.name
 abbrev pub hangs_on_root : DesignTree → (entity : ℕ) → Bool
 hangs_on_root d x = root_touches_entity d (slice_get (entities_of d) x)
 
--- for each point a row, which says of each entity whether it hangs there
+-- For each point a row, which says of each entity whether it hangs there.
 abbrev pub Rows : Type 0
 Rows = List (List Bool)
 
--- a table: the rows of the points, and the root's
+-- A table: the rows of the points, and the root's.
 pub record Table : Type 0 where
   pub points : Rows
   pub root : List Bool
@@ -43,7 +44,7 @@ abbrev pub bit_of : Option (List Bool) → (place : ℕ) → Bool
 bit_of None x = false
 bit_of (Some row) x = unwrap_or (slice_get row x) false
 
--- what a table says
+-- What a table says.
 abbrev pub says : Table → (point entity : ℕ) → Bool
 says table zero x = false
 says table (suc p) x = bit_of (slice_get table.points p) x
@@ -52,7 +53,7 @@ says table (suc p) x = bit_of (slice_get table.points p) x
 abbrev pub says_of_root : Table → (entity : ℕ) → Bool
 says_of_root table x = unwrap_or (slice_get table.root x) false
 
--- a table of what hangs in a design
+-- A table of what hangs in a design.
 pub record IsHangTable (d : DesignTree) (table : Table) : Type 0 where
   pub points : (p x : ℕ) → says table p x ≡ hangs d p x
   pub root : (x : ℕ) → says_of_root table x ≡ hangs_on_root d x

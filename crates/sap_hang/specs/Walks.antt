@@ -1,4 +1,5 @@
--- What a walk has at each part of a design: sets of numbers of entities, each for a test of names. An entity has the number of the first of its name.
+-- What a walk has at each part of a design: sets of numbers of entities, each for a test of names. An entity has the
+-- number of the first of its name.
 use Rattle.std.specs.Prelude.{◌≡◌, ℕ, Bool, ◌||◌, ◌&&◌, List, ◌++◌, Some, map, reverse}
 use Rattle.sap_tree.specs.declared.syntax.Decl.{Decl}
 use Rattle.sap_tree.specs.declared.syntax.State.{State}
@@ -21,27 +22,27 @@ use Rattle.sap_hang.specs.declared.standing.Walk.{Walk}
 abbrev pub Test : Type 0
 Test = List ℕ → Bool
 
--- of the names of entities, the set has those that pass the test
+-- Of the names of entities, the set has those that pass the test.
 pub record Stands (es : List Entity) (f : Test) (s : Set) : Type 0 where
   pub stands : (name : List ℕ) (x : ℕ) → number_of es name ≡ Some x → has s x ≡ f name
 
--- those that pass the test were added
+-- Those that pass the test were added.
 pub record Adds (es : List Entity) (f : Test) (old new : Set) : Type 0 where
   pub adds : (name : List ℕ) (x : ℕ) → number_of es name ≡ Some x → has new x ≡ (f name || has old x)
 
--- for each entity the number of the first of its name
+-- For each entity the number of the first of its name.
 abbrev pub firsts_of : List Entity → List ℕ
 firsts_of es = map (λ (e : Entity). entity_number es e.name.name) es
 
--- rows that were found, the last of the text first
+-- Rows that were found, the last of the text first.
 abbrev pub table_of : List Entity → List Set → Rows
 table_of es rows = rows_of (firsts_of es) (reverse rows)
 
--- which entities pass a test
+-- Which entities pass a test.
 abbrev pub passing : List Entity → Test → List Bool
 passing es f = map (λ (e : Entity). f e.name.name) es
 
--- what is touched at these commands of one body, and at these points
+-- What is touched at these commands of one body, and at these points.
 abbrev pub touched_at : List Entity → List Decl → Home → List Command → Rows
 touched_at es ds h cs = map (λ (c : Command). passing es (λ x. tree.touches ds h c x)) cs
 
@@ -65,11 +66,12 @@ declared_in s = s.walk.now.declarations.now
 abbrev pub home_of : Standing → Home
 home_of s = record { name = s.state.now; kind = s.kind.now; children = states_of s.children.now }
 
--- the sets are what they stand for
+-- The sets are what they stand for.
 abbrev pub Sees : Standing → Type 0
-Sees s = Knows s.walk.now × Stands (entities_in s) (λ x. fall_touches (declared_in s) (states_of s.children.now) x) s.falls.now
+Sees s = Knows s.walk.now × Stands (entities_in s)
+    (λ x. fall_touches (declared_in s) (states_of s.children.now) x) s.falls.now
 
--- a part of a body: its points, what it touches and what it assigns
+-- A part of a body: its points, what it touches and what it assigns.
 pub record Part : Type 0 where
   pub points : List Command
   pub touches : Test
@@ -107,18 +109,21 @@ list_part s cs = record {
   assigns = λ x. tree.list_assigns cs x;
 }
 
--- registers and memories that are dynamic and pass the test
+-- Registers and memories that are dynamic and pass the test.
 abbrev pub stored : List Decl → Test → Test
 stored ds f = λ x. is_dynamic_store ds x && f x
 
--- a part was walked: the rows of its points, and what it assigns and touches
+-- A part was walked: the rows of its points, and what it assigns and touches.
 pub record Walked (s : Standing) (p : Part) (old : List Set) (a t : Set) (new : List Set) (b u : Set) : Type 0 where
-  pub rows : table_of (entities_in s) new ≡ touched_at (entities_in s) (declared_in s) (home_of s) p.points ++ table_of (entities_in s) old
+  pub rows : table_of (entities_in s) new ≡ touched_at (entities_in s) (declared_in s) (home_of s)
+      p.points ++ table_of (entities_in s) old
   pub assigned : Adds (entities_in s) (stored (declared_in s) p.assigns) a b
   pub touched : Adds (entities_in s) p.touches t u
 
--- states were walked: the rows of their points, which registers and memories they or their descendants assign, and which of them are dynamic
-pub record Passed (es : List Entity) (ds : List Decl) (states : List State) (old new : List Set) (a c : Set) : Type 0 where
+-- States were walked: the rows of their points, which registers and memories they or their descendants assign, and
+-- which of them are dynamic.
+pub record Passed (es : List Entity) (ds : List Decl) (states : List State) (old new : List Set)
+    (a c : Set) : Type 0 where
   pub rows : table_of es new ≡ touched_on es ds (points.states_points (states_of states)) ++ table_of es old
   pub assigned : Stands es (stored ds (λ x. tree.states_assign (states_of states) x)) a
   pub children : Stands es (λ x. tree.is_dynamic_child (states_of states) x) c

@@ -15,7 +15,7 @@ pub data Asked : Type 0 where
 abbrev pub is_help : (word : List ℕ) → Bool
 is_help word = bytes_eq word (codes "--help") || (bytes_eq word (codes "-h") || bytes_eq word (codes "help"))
 
--- a word for the help, or --version, as the only word, and --explain CODE
+-- What is asked by words: `--help` and `--version` as the only word, and `--explain CODE`.
 abbrev pub asked_by : List (List ℕ) → Option Asked
 asked_by (word ∷ []) =
     if is_help word then Some help
@@ -23,7 +23,7 @@ asked_by (word ∷ []) =
 asked_by (word ∷ code ∷ []) = if bytes_eq word (codes "--explain") then Some (explanation code) else None
 asked_by _ = None
 
--- the word behind --explain is no code
+-- The word behind --explain is no code.
 abbrev pub is_unknown : Asked → Bool
 is_unknown help = false
 is_unknown version = false
@@ -35,37 +35,38 @@ asked_of Help = help
 asked_of Version = version
 asked_of (Explanation code) = explanation code.now
 
--- the text is one that is asked for: the name and number of the version, or the text of the code
+-- The text is one that is asked for: the name and number of the version, or the text of the code.
 abbrev pub IsAnswer : Asked → (text : List ℕ) → Type 0
 IsAnswer help text = Unit {0}
 IsAnswer version text = text ≡ codes "sapper 0.1.0\n"
 IsAnswer (explanation code) text = IsTextOf code text
 
--- channel 1 has such a text more, and nothing else changed
+-- Channel 1 has such a text more, and nothing else changed.
 pub record IsAnswered (asked : Asked) (before after : Option Told) : Type 0 where
   pub text : List ℕ
   pub is_answer : IsAnswer asked text
   pub told : after ≡ option_map (added 1 text) before
 
--- the status of an answer: done; no code; a write on channel 1 failed; want of memory
+-- The status of an answer: done; no code; a write on channel 1 failed; want of memory.
 abbrev pub IsStatus : ℕ → Type 0
 IsStatus status = (status ≡ 0) ⊎ ((status ≡ 2) ⊎ ((status ≡ 6) ⊎ (status ≡ 7)))
 
--- what an answer with a status writes on channel 2: nothing where it is done, and else one line
+-- What an answer with a status writes on channel 2: nothing where it is done, and else one line.
 abbrev pub line_at : (status : ℕ) → List ℕ
 line_at status =
     if nat_eq status 2 then codes "words\n"
     else (if nat_eq status 6 then codes "desk: output\n"
     else (if nat_eq status 7 then codes "memory\n" else []))
 
--- files, what is open, whom a failed call blames and channel 1 are as before
+-- Files, what is open, whom a failed call blames and channel 1 are as before.
 pub record Untouched (t n : Told) : Type 0 where
   pub files : n.files ≡ t.files
   pub uses : n.uses ≡ t.uses
   pub blame : n.blame ≡ t.blame
   pub output : n.written 1 ≡ t.written 1
 
--- files and what is open are as before, the output is blamed, and channel 1 has a part more of a text that is asked for, from its first byte on
+-- Files and what is open are as before, the output is blamed, and channel 1 has a part more of a text that is asked
+-- for, from its first byte on.
 pub record IsCutOff (asked : Asked) (t n : Told) : Type 0 where
   pub text : List ℕ
   pub is_answer : IsAnswer asked text

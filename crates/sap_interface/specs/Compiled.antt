@@ -29,7 +29,8 @@ pub record NetStandsFor (d : Named) (tag sites : ℕ) (n : Net) : Type 0 where
   pub interface : HasInterface d tag sites n
   pub takes : (stream : List (List Tagged)) → StreamFits (world d) stream → AllFit n.inputs (coded_stream d.code stream)
   pub stands : (stream : List (List Tagged)) → StreamFits (world d) stream
-      → (vs : List Valuation) → IsRun n (coded_stream d.code stream) vs → CyclesStand d sites (map (observed n) vs) (labelled_run d.program stream)
+      → (vs : List Valuation) → IsRun n (coded_stream d.code stream) vs
+      → CyclesStand d sites (map (observed n) vs) (labelled_run d.program stream)
 
 -- The numbers before the first cycle stand for the design's first state, with nothing refused: each register, each
 -- memory's cell, each state's tag and each current child has the number, or the code of the level, that it has there.

@@ -13,13 +13,17 @@ use Rattle.sap_interface.specs.Compiled.{NetStandsFor, NetStartsAs}
 -- `named_of` is the program of a design over the levels of a lattice, with the names of its entities and the codes of
 -- its levels.
 abbrev pub named_of : Levels → DesignTree → Named
-named_of ls d = record { program = program_of ls d; names = map (λ e. e.name.name) (entities_of d); code = code_of (order_of ls) }
+named_of ls d = record {
+  program = program_of ls d;
+  names = map (λ e. e.name.name) (entities_of d);
+  code = code_of (order_of ls);
+}
 
 -- `site_count_of` says how many check sites a design has.
 abbrev pub site_count_of : DesignTree → ℕ
 site_count_of d = length (check_sites d)
 
--- the netlist stands for the design
+-- The netlist stands for the design.
 abbrev pub StandsForDesign : Levels → DesignTree → Net → Type 0
 StandsForDesign ls d n = NetStandsFor (named_of ls d) (width_of (order_of ls)) (site_count_of d) n
 

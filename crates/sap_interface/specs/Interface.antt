@@ -22,7 +22,8 @@ Shown = Name × PortKind
 abbrev pub pairs_of : (ℕ → Bool) → PortKind → Named → (x : ℕ) → List Entity → List Shown
 pairs_of picks k d x [] = []
 pairs_of picks k d x (e ∷ es) =
-    (if picks x then (value_name (name d x), k) ∷ (tag_name (name d x), k) ∷ [] else []) ++ pairs_of picks k d (x + 1) es
+    (if picks x then (value_name (name d x), k) ∷ (tag_name (name d x), k) ∷ [] else [])
+    ++ pairs_of picks k d (x + 1) es
 
 -- Each check site has two wires, from site `k` on.
 abbrev pub site_ports : (k sites : ℕ) → List Shown
@@ -70,21 +71,29 @@ HasSeat registers count seat = (u : ℕ) × IsSeatWidth count u × (find registe
 -- the width of tags.
 pub record DeclaresPart (named : Name → Name) (d : Named) (tag sites : ℕ) (declared : Declared) : Type 0 where
   pub registers : (x : ℕ) → is_register (world d) x ≡ true
-      → (find declared.registers (named (value_name (name d x))) ≡ Some (width (world d) x)) × (find declared.registers (named (tag_name (name d x))) ≡ Some tag)
+      → (find declared.registers (named (value_name (name d x))) ≡ Some (width (world d) x))
+      × (find declared.registers (named (tag_name (name d x))) ≡ Some tag)
   pub site_wires : (k : ℕ) → 1 ≤ k → k ≤ sites
-      → (find declared.wires (named (refused_name k)) ≡ Some 1) × (find declared.wires (named (refused_level_name k)) ≡ Some tag)
-  pub memories : (m : ℕ) → is_memory (world d) m ≡ true → find declared.memories (named (value_name (name d m))) ≡ Some (width (world d) m, depth d m)
-  pub cell_tags : (m : ℕ) → is_memory (world d) m ≡ true → is_dynamic (world d) m ≡ false → find declared.memories (named (tag_name (name d m))) ≡ Some (tag, depth d m)
-  pub memory_tags : (m : ℕ) → is_memory (world d) m ≡ true → is_dynamic (world d) m ≡ true → find declared.registers (named (tag_name (name d m))) ≡ Some tag
-  pub state_tags : (x : ℕ) → is_state (world d) x ≡ true → x < root (world d) → find declared.registers (named (tag_name (name d x))) ≡ Some tag
-  pub seats : (p : ℕ) → p < root (world d) → 0 < children (world d) p → HasSeat declared.registers (children (world d) p) (named (seat_name (name d p)))
+      → (find declared.wires (named (refused_name k)) ≡ Some 1)
+      × (find declared.wires (named (refused_level_name k)) ≡ Some tag)
+  pub memories : (m : ℕ) → is_memory (world d) m ≡ true
+      → find declared.memories (named (value_name (name d m))) ≡ Some (width (world d) m, depth d m)
+  pub cell_tags : (m : ℕ) → is_memory (world d) m ≡ true → is_dynamic (world d) m ≡ false
+      → find declared.memories (named (tag_name (name d m))) ≡ Some (tag, depth d m)
+  pub memory_tags : (m : ℕ) → is_memory (world d) m ≡ true → is_dynamic (world d) m ≡ true
+      → find declared.registers (named (tag_name (name d m))) ≡ Some tag
+  pub state_tags : (x : ℕ) → is_state (world d) x ≡ true → x < root (world d)
+      → find declared.registers (named (tag_name (name d x))) ≡ Some tag
+  pub seats : (p : ℕ) → p < root (world d) → 0 < children (world d) p
+      → HasSeat declared.registers (children (world d) p) (named (seat_name (name d p)))
   pub root_seat : HasSeat declared.registers (children (world d) (root (world d))) (named root_seat)
 
 -- The interface of one design, inputs and all, under its own names.
 pub record DeclaresInterface (d : Named) (tag sites : ℕ) (declared : Declared) : Type 0 where
   pub ports : declared.ports ≡ ports_of d sites
   pub inputs : (x : ℕ) → is_input (world d) x ≡ true
-      → (find declared.inputs (value_name (name d x)) ≡ Some (width (world d) x)) × (find declared.inputs (tag_name (name d x)) ≡ Some tag)
+      → (find declared.inputs (value_name (name d x)) ≡ Some (width (world d) x))
+      × (find declared.inputs (tag_name (name d x)) ≡ Some tag)
   pub part : DeclaresPart (λ n. n) d tag sites declared
   -- its registers and memories have no other names
   pub register_names : AllByRecursion (λ r. IsInterfaceName d sites r.0) declared.registers

@@ -14,7 +14,8 @@ pub data IsInterfaceName (d : Named) (sites : ℕ) : List ℕ → Type 0 where
   value_of : (x : ℕ) → holds_numbers (world d) x ≡ true → IsInterfaceName d sites (value_name (name d x))
   tag_of : (x : ℕ) → holds_numbers (world d) x ≡ true → IsInterfaceName d sites (tag_name (name d x))
   -- the tag of a state
-  state_tag_of : (x : ℕ) → is_state (world d) x ≡ true → x < root (world d) → IsInterfaceName d sites (tag_name (name d x))
+  state_tag_of : (x : ℕ) → is_state (world d) x ≡ true → x < root (world d)
+      → IsInterfaceName d sites (tag_name (name d x))
   -- the current child of a state with children, and of the root
   child_of : (p : ℕ) → p < root (world d) → 0 < children (world d) p → IsInterfaceName d sites (seat_name (name d p))
   child_of_root : IsInterfaceName d sites root_seat

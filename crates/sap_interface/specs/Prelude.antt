@@ -1,4 +1,5 @@
--- The definitions of what a module's signals stand for that proofs of other crates name, each from the file in which it stands. Declares nothing.
+-- The definitions of what a module's signals stand for that proofs of other crates name, each from the file in which it
+-- stands. Declares nothing.
 pub use Rattle.sap_interface.specs.Compiled.{coded, coded_stream, CyclesStand, NetStandsFor, NetStartsAs}
 pub use Rattle.sap_interface.specs.Designs.{named_of, site_count_of, StandsForDesign}
 pub use Rattle.sap_interface.specs.Interface.{declared_by, DeclaresInterface, DeclaresPart, HasInterface, HasSeat, pairs_of, ports_of, Shown, site_ports}

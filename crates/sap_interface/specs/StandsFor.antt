@@ -38,13 +38,16 @@ IsRefused rs k = (t : ℕ) × IsRefusedAt rs k t
 -- sites the design has.
 pub record StandsFor (d : Named) (sites : ℕ) (v : Valuation) (s : Store) (refused : List Refusal) : Type 0 where
   pub register_values : (x : ℕ) → is_register (world d) x ≡ true → v.value (value_name (name d x)) ≡ number (own x) s
-  pub register_tags : (x : ℕ) → is_register (world d) x ≡ true → v.value (tag_name (name d x)) ≡ d.code (level (world d) (own x) s)
-  pub cells : (m i : ℕ) → is_memory (world d) m ≡ true → i < depth d m → v.cell (value_name (name d m)) i ≡ number (start m i) s
+  pub register_tags : (x : ℕ) → is_register (world d) x ≡ true
+      → v.value (tag_name (name d x)) ≡ d.code (level (world d) (own x) s)
+  pub cells : (m i : ℕ) → is_memory (world d) m ≡ true → i < depth d m
+      → v.cell (value_name (name d m)) i ≡ number (start m i) s
   pub cell_tags : (m i : ℕ) → is_memory (world d) m ≡ true → is_dynamic (world d) m ≡ false → i < depth d m
       → v.cell (tag_name (name d m)) i ≡ d.code (level (world d) (start m i) s)
   pub memory_tags : (m : ℕ) → is_memory (world d) m ≡ true → is_dynamic (world d) m ≡ true
       → v.value (tag_name (name d m)) ≡ d.code (level (world d) (start_whole m) s)
-  pub state_tags : (x : ℕ) → is_state (world d) x ≡ true → x < root (world d) → v.value (tag_name (name d x)) ≡ d.code (level (world d) (own x) s)
+  pub state_tags : (x : ℕ) → is_state (world d) x ≡ true → x < root (world d)
+      → v.value (tag_name (name d x)) ≡ d.code (level (world d) (own x) s)
   pub seats : (p : ℕ) → p < root (world d) → 0 < children (world d) p → v.value (seat_name (name d p)) ≡ child p s
   pub root_seat : v.value root_seat ≡ child (root (world d)) s
   -- Each refusal is at a check site of the design, in the order of the sites, and no site is refused twice.

@@ -9,12 +9,12 @@ use Rattle.sap_ir.specs.declared.guarded.Act.TheVariants as act
 use Rattle.sap_ir.specs.declared.guarded.GuardedCmd.{GuardedCmd}
 use Rattle.sap_ir.specs.Source.{Action, set, put, Command}
 
--- a term in front of others
+-- A term in front of others.
 abbrev pub joined_behind : Term Name → List (Term Name) → Term Name
 joined_behind t [] = t
 joined_behind t (u ∷ us) = join t (joined_behind u us)
 
--- terms one behind another, the foremost first; of none a number without width
+-- Terms one behind another, the foremost first; of none a number without width.
 abbrev pub joined_terms : List (Term Name) → Term Name
 joined_terms [] = constant 0 0
 joined_terms (t ∷ ts) = joined_behind t ts

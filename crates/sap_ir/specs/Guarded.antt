@@ -15,25 +15,29 @@ pub record Going : Type 0 where
 abbrev pub value_in : (widths : Name → ℕ) → Going → Term Name → ℕ
 value_in widths g t = term_value widths g.now.value g.now.cell t
 
--- another number in one cell
+-- Another number in one cell.
 abbrev pub set_cell : (Name → ℕ → ℕ) → Name → (index number : ℕ) → Name → ℕ → ℕ
 set_cell cells m i x n j = if bytes_eq n m && j == i then x else cells n j
 
 -- What stands after an action: an assignment is seen at once, a cell's write only in the next cycle.
 abbrev pub after_action : (widths : Name → ℕ) → Going → Action → Going
 after_action widths g (set n t) = record { now = set_value g.now n (value_in widths g t); next = g.next }
-after_action widths g (put m i t) = record { now = g.now; next = set_cell g.next m (value_in widths g i) (value_in widths g t) }
+after_action widths g (put m i t) = record {
+  now = g.now;
+  next = set_cell g.next m (value_in widths g i) (value_in widths g t);
+}
 
 -- What stands after a guarded command: the action takes effect where the guard is not 0.
 abbrev pub after_command : (widths : Name → ℕ) → Going → Command → Going
 after_command widths g c = if value_in widths g c.when == 0 then g else after_action widths g c.act
 
--- all in order
+-- All in order.
 abbrev pub after : (widths : Name → ℕ) → Going → List Command → Going
 after widths g [] = g
 after widths g (c ∷ cs) = after widths (after_command widths g c) cs
 
--- How a cycle begins: an input has the number that it is given, a register what it had after the cycle before, in the first cycle its start, and a wire 0.
+-- How a cycle begins: an input has the number that it is given, a register what it had after the cycle before, in the
+-- first cycle its start, and a wire 0.
 
 -- The number of a register at the start of a cycle: that of the cycle before, at power-up its start.
 abbrev pub first_number : (before : Option Valuation) → Var → ℕ
@@ -67,7 +71,7 @@ begun s before xs =
     let cells = cell_at_start before s.memories in
     record { now = record { value = number_at_start s before s.inputs xs; cell = cells }; next = cells }
 
--- the numbers after a cycle: the registers' and wires' last ones, and the memories' next contents
+-- The numbers after a cycle: the registers' and wires' last ones, and the memories' next contents.
 abbrev pub ended : Going → Valuation
 ended g = record { value = g.now.value; cell = g.next }
 
@@ -75,7 +79,7 @@ ended g = record { value = g.now.value; cell = g.next }
 abbrev pub cycle : Source → (before : Option Valuation) → List ℕ → Valuation
 cycle s before xs = ended (after (width_of s) (begun s before xs) s.commands)
 
--- one list of inputs a cycle
+-- One list of inputs a cycle.
 abbrev pub run_after : Source → (before : Option Valuation) → List (List ℕ) → List Valuation
 run_after s before [] = []
 run_after s before (xs ∷ xss) = let v = cycle s before xs in v ∷ run_after s (Some v) xss

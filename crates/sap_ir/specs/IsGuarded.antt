@@ -17,17 +17,21 @@ use Rattle.sap_ir.specs.Source.{Action, set, put, Command, Source, readable, sha
 abbrev pub TermFine : (memories : Shapes) (readable : Scope) (width : ℕ) → Term Name → Type 0
 TermFine memories readable u (constant w n) = (w ≡ u) × (n < 2 ^ u)
 TermFine memories readable u (read x) = find readable x ≡ Some u
-TermFine memories readable u (cell m i) = (b : ℕ) × IsWidth b × (find memories m ≡ Some (u, 2 ^ b)) × TermFine memories readable b i
+TermFine memories readable u (cell m i) = (b : ℕ) × IsWidth b × (find memories m ≡ Some (u, 2 ^ b))
+    × TermFine memories readable b i
 TermFine memories readable u (one op a) = (w : ℕ) × IsWidth w × TermFine memories readable w a × (u ≡ width1 op w)
 TermFine memories readable u (two op a b) =
-    (w : ℕ) × (t : ℕ) × IsWidth w × IsWidth t × TermFine memories readable w a × TermFine memories readable t b × CountFits op w t × (u ≡ width2 op w)
-TermFine memories readable u (choose c a b) = TermFine memories readable 1 c × TermFine memories readable u a × TermFine memories readable u b
+    (w : ℕ) × (t : ℕ) × IsWidth w × IsWidth t × TermFine memories readable w a
+    × TermFine memories readable t b × CountFits op w t × (u ≡ width2 op w)
+TermFine memories readable u (choose c a b) =
+    TermFine memories readable 1 c × TermFine memories readable u a × TermFine memories readable u b
 TermFine memories readable u (join a b) =
-    (w : ℕ) × (t : ℕ) × IsWidth w × IsWidth t × TermFine memories readable w a × TermFine memories readable t b × (u ≡ w + t)
+    (w : ℕ) × (t : ℕ) × IsWidth w × IsWidth t × TermFine memories readable w a
+    × TermFine memories readable t b × (u ≡ w + t)
 TermFine memories readable u (part a hi lo) =
     (w : ℕ) × IsWidth w × TermFine memories readable w a × (lo ≤ hi) × (hi < w) × (u ≡ hi + 1 - lo)
 
--- what can be assigned, with its width
+-- What can be assigned, with its width.
 abbrev pub assignable : Source → Scope
 assignable s = map (λ x. (x.name, x.width)) s.registers ++ map (λ x. (x.name, x.width)) s.wires
 
@@ -35,7 +39,8 @@ assignable s = map (λ x. (x.name, x.width)) s.registers ++ map (λ x. (x.name, 
 abbrev pub ActionFine : Source → Action → Type 0
 ActionFine s (set x a) = (u : ℕ) × (find (assignable s) x ≡ Some u) × TermFine (shapes s) (readable s) u a
 ActionFine s (put m i a) =
-    (w : ℕ) × (b : ℕ) × IsWidth b × (find (shapes s) m ≡ Some (w, 2 ^ b)) × TermFine (shapes s) (readable s) b i × TermFine (shapes s) (readable s) w a
+    (w : ℕ) × (b : ℕ) × IsWidth b × (find (shapes s) m ≡ Some (w, 2 ^ b))
+    × TermFine (shapes s) (readable s) b i × TermFine (shapes s) (readable s) w a
 
 -- A guarded command's guard has one bit and its action is fine.
 abbrev pub CommandFine : Source → Command → Type 0
@@ -49,16 +54,17 @@ variable_names xs = map (λ x. x.name) xs
 abbrev pub memory_names : List MemoryVariable → List Name
 memory_names ms = map (λ m. m.name) ms
 
--- all names
+-- All names.
 abbrev pub declared : Source → List Name
-declared s = variable_names s.inputs ++ (variable_names s.registers ++ (variable_names s.wires ++ memory_names s.memories))
+declared s = variable_names s.inputs ++ (variable_names s.registers
+    ++ (variable_names s.wires ++ memory_names s.memories))
 
--- an `n` and digits, which are the names of the wires that a netlist adds
+-- An `n` and digits, which are the names of the wires that a netlist adds.
 abbrev pub is_helping : Name → Bool
 is_helping (c ∷ d ∷ ds) = c == byte "n" && list_all is_ascii_digit (d ∷ ds)
 is_helping _ = false
 
--- inputs and wires begin at 0
+-- Inputs and wires begin at 0.
 abbrev pub IsPlainVar : Var → Type 0
 IsPlainVar x = IsWidth x.width × (x.start ≡ 0)
 
@@ -66,7 +72,7 @@ IsPlainVar x = IsWidth x.width × (x.start ≡ 0)
 abbrev pub IsRegisterVar : Var → Type 0
 IsRegisterVar x = IsWidth x.width × (x.start < 2 ^ x.width)
 
--- a depth of 2 to 4096, a power of two
+-- A depth of 2 to 4096, a power of two.
 abbrev pub IsMemoryVariable : MemoryVariable → Type 0
 IsMemoryVariable m = IsWidth m.width × ((b : ℕ) × IsDepth m.depth b) × (m.start < 2 ^ m.width)
 
@@ -83,7 +89,8 @@ pub record IsGuarded (s : Source) : Type 0 where
   pub registers : AllByRecursion IsRegisterVar s.registers
   pub memories : AllByRecursion IsMemoryVariable s.memories
   -- each port is a register or a wire, and no two are one
-  pub ports_declared : AllByRecursion (λ x. is_among x (variable_names s.registers ++ variable_names s.wires) ≡ true) s.ports
+  pub ports_declared : AllByRecursion (λ x. is_among x
+      (variable_names s.registers ++ variable_names s.wires) ≡ true) s.ports
   pub ports_once : AreDistinct s.ports
   -- assignments
   pub commands : AllByRecursion (CommandFine s) s.commands

@@ -1,4 +1,5 @@
--- The definitions of programs of guarded commands and of nested states that proofs of other crates name, each from the file in which it stands. Declares nothing.
+-- The definitions of programs of guarded commands and of nested states that proofs of other crates name, each from the
+-- file in which it stands. Declares nothing.
 pub use Rattle.sap_ir.specs.Calcs.{action_of, command_of, commands_of, term_of}
 pub use Rattle.sap_ir.specs.Guarded.{after, after_action, after_command, begun, cell_at_start, cycle, first_cell, first_number, Going, number_at_start}
 pub use Rattle.sap_ir.specs.Guarded.{register_number, set_cell, value_in}

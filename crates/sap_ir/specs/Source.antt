@@ -7,12 +7,12 @@ use Rattle.sap_net.specs.Rules.{Shapes}
 use Rattle.sap_ir.specs.declared.guarded.Var.{Var}
 use Rattle.sap_ir.specs.declared.guarded.MemoryVariable.{MemoryVariable}
 
--- an assignment to a register or a wire, or a write of a memory's cell
+-- An assignment to a register or a wire, or a write of a memory's cell.
 pub data Action : Type 0 where
   set : Name → Term Name → Action
   put : (memory : Name) → (index value : Term Name) → Action
 
--- what is done where the condition isn't 0
+-- What is done where the condition isn't 0.
 pub record Command : Type 0 where
   pub when : Term Name
   pub act : Action
@@ -26,14 +26,15 @@ pub record Source : Type 0 where
   pub ports : List Name
   pub commands : List Command
 
--- what can be read, with its width
+-- What can be read, with its width.
 abbrev pub readable : Source → Scope
-readable s = map (λ x. (x.name, x.width)) s.inputs ++ map (λ x. (x.name, x.width)) s.registers ++ map (λ x. (x.name, x.width)) s.wires
+readable s = map (λ x. (x.name, x.width)) s.inputs ++ map (λ x. (x.name, x.width)) s.registers
+    ++ map (λ x. (x.name, x.width)) s.wires
 
 -- Width and depth of each memory, by its name.
 abbrev pub shapes : Source → Shapes
 shapes s = map (λ m. (m.name, (m.width, m.depth))) s.memories
 
--- the width of a name, of a memory's cells where it is that of a memory
+-- The width of a name, of a memory's cells where it is that of a memory.
 abbrev pub width_of : Source → Name → ℕ
 width_of s n = unwrap_or (find (readable s ++ map (λ m. (m.name, m.width)) s.memories) n) 0

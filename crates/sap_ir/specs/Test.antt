@@ -44,14 +44,17 @@ abbrev pub term_is_fine : (memories : Shapes) (readable : Scope) (widths : Name 
 term_is_fine ms sc widths u (constant w n) = w == u && nat_lt n (2 ^ u)
 term_is_fine ms sc widths u (read x) = is_found u (find sc x)
 term_is_fine ms sc widths u (cell m i) =
-    let b = term_width widths i in is_width b && of_shape (λ w. w == u) (λ d. d == 2 ^ b) (find ms m) && term_is_fine ms sc widths b i
+    let b = term_width widths i in is_width b && of_shape (λ w. w == u) (λ d. d == 2 ^ b) (find ms m)
+    && term_is_fine ms sc widths b i
 term_is_fine ms sc widths u (one op a) =
     let w = term_width widths a in is_width w && term_is_fine ms sc widths w a && u == width1 op w
 term_is_fine ms sc widths u (two op a b) =
     let w = term_width widths a in
     let t = term_width widths b in
-    is_width w && is_width t && term_is_fine ms sc widths w a && term_is_fine ms sc widths t b && count_fits op w t && u == width2 op w
-term_is_fine ms sc widths u (choose c a b) = term_is_fine ms sc widths 1 c && term_is_fine ms sc widths u a && term_is_fine ms sc widths u b
+    is_width w && is_width t && term_is_fine ms sc widths w a && term_is_fine ms sc widths t b
+    && count_fits op w t && u == width2 op w
+term_is_fine ms sc widths u (choose c a b) =
+    term_is_fine ms sc widths 1 c && term_is_fine ms sc widths u a && term_is_fine ms sc widths u b
 term_is_fine ms sc widths u (join a b) =
     let w = term_width widths a in
     let t = term_width widths b in
@@ -88,7 +91,7 @@ is_plain_var x = is_width x.width && x.start == 0
 abbrev pub is_register_var : Var → Bool
 is_register_var x = is_width x.width && nat_lt x.start (2 ^ x.width)
 
--- one of 2, 4, .. 2 ^ most
+-- One of 2, 4, .. 2 ^ most.
 abbrev pub is_power : (most : ℕ) → ℕ → Bool
 is_power zero d = false
 is_power (suc k) d = d == 2 ^ suc k || is_power k d
@@ -101,6 +104,7 @@ is_memory_variable m = is_width m.width && is_power 12 m.depth && nat_lt m.start
 unfoldable pub is_guarded : Source → Bool
 is_guarded s =
     list_all is_name (declared s) && list_all (λ x. not (is_helping x)) (declared s) && are_distinct (declared s)
-    && list_all is_plain_var s.inputs && list_all is_plain_var s.wires && list_all is_register_var s.registers && list_all is_memory_variable s.memories
+    && list_all is_plain_var s.inputs && list_all is_plain_var s.wires
+    && list_all is_register_var s.registers && list_all is_memory_variable s.memories
     && list_all (λ x. is_among x (variable_names s.registers ++ variable_names s.wires)) s.ports && are_distinct s.ports
     && list_all (command_is_fine s) s.commands

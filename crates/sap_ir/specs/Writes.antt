@@ -7,19 +7,19 @@ use Rattle.sap_ir.specs.declared.guarded.Var.{Var}
 use Rattle.sap_ir.specs.Source.{Action, set, put, Command, Source, width_of}
 use Rattle.sap_ir.specs.Guarded.{Going, value_in, after_command, begun}
 
--- the memory that an action writes, in front of others
+-- The memory that an action writes, in front of others.
 abbrev pub with_memory : Action → List Name → List Name
 with_memory (set x a) ms = ms
 with_memory (put m i a) ms = m ∷ ms
 
--- the memories that some commands write, in order
+-- The memories that some commands write, in order.
 abbrev pub memories_written : (widths : Name → ℕ) → Going → List Command → List Name
 memories_written widths g [] = []
 memories_written widths g (c ∷ cs) =
     let others = memories_written widths (after_command widths g c) cs in
     if value_in widths g c.when == 0 then others else with_memory c.act others
 
--- registers and memories are within their widths
+-- Registers and memories are within their widths.
 pub record AreWithin (s : Source) (v : Valuation) : Type 0 where
   pub registers : AllByRecursion (λ x. v.value x.name < 2 ^ x.width) s.registers
   pub memories : AllByRecursion (λ m. (i : ℕ) → v.cell m.name i < 2 ^ m.width) s.memories
@@ -29,7 +29,7 @@ abbrev pub WithinBefore : Source → Option Valuation → Type 0
 WithinBefore s None = Unit {0}
 WithinBefore s (Some v) = AreWithin s v
 
--- one number for each input, within its width
+-- One number for each input, within its width.
 abbrev pub NumbersFit : List Var → List ℕ → Type 0
 NumbersFit = AllZip (λ (x : Var) (n : ℕ). n < 2 ^ x.width)
 

@@ -1,4 +1,5 @@
--- The netlist of several netlists: all of them side by side, each name behind its part's, and in front of them the wires by which registers feed inputs.
+-- The netlist of several netlists: all of them side by side, each name behind its part's, and in front of them the
+-- wires by which registers feed inputs.
 use Rattle.std.specs.Prelude.{ℕ, Bool, not, ◌&&◌, List, [], ◌∷◌, ◌++◌, map, filter, Option, Some, None, codes}
 use Rattle.sap_bits.specs.declared.Op2.TheVariants.{Or, Eq}
 use Rattle.sap_maps.specs.Maps.{Name}
@@ -19,13 +20,13 @@ use Rattle.sap_build.specs.Copies.{copy_port, copy_input, copy_wire, copy_regist
 use Rattle.sap_linked.specs.Parts.{in_part}
 use Rattle.sap_linked.specs.Netlist.{assign}
 
--- a part's name and its netlist
+-- A part's name and its netlist.
 pub record NamedNet : Type 0 where
   pub name : Name
   pub net : Net
 
--- A register of a part feeds an input of a part, both so wide, through the level of this code where there is one. Names are those of the designs: for x
--- the netlists have `v_x` and `t_x`.
+-- A register of a part feeds an input of a part, both so wide, through the level of this code where there is one. Names
+-- are those of the designs: for x the netlists have `v_x` and `t_x`.
 pub record Feed : Type 0 where
   pub from_part : Name
   pub from : Name
@@ -34,7 +35,7 @@ pub record Feed : Type 0 where
   pub width : ℕ
   pub level : Option ℕ
 
--- the value and the tag of the register and of the input
+-- The value and the tag of the register and of the input.
 abbrev pub value_from : Feed → Name
 value_from f = in_part f.from_part (value_name f.from)
 
@@ -50,7 +51,7 @@ value_to f = in_part f.to_part (value_name f.to)
 abbrev pub tag_to : Feed → Name
 tag_to f = in_part f.to_part (tag_name f.to)
 
--- through a level: the join of the register's code with that of the level, and whether that is the code of the level
+-- Through a level: the join of the register's code with that of the level, and whether that is the code of the level.
 abbrev pub joined_to : Feed → Name
 joined_to f = in_part f.to_part (codes "j_" ++ f.to)
 
@@ -66,11 +67,11 @@ join_wire tag f c = assign (joined_to f) tag (Two Or (Named (tag_from f)) (Const
 abbrev pub test_wire : (tag : ℕ) → Feed → (code : ℕ) → Wire
 test_wire tag f c = assign (below_to f) 1 (Two Eq (Named (joined_to f)) (Constant tag c))
 
--- the value where that is so, else 0
+-- The value where that is so, else 0.
 abbrev pub choice_wire : Feed → Wire
 choice_wire f = assign (value_to f) f.width (Choose (Named (below_to f)) (Named (value_from f)) (Constant f.width 0))
 
--- what feeds the input, through no level or through that of a code; `tag` is the width of tags
+-- What feeds the input, through no level or through that of a code; `tag` is the width of tags.
 abbrev pub feeds_by : (tag : ℕ) → Feed → Option ℕ → List Wire
 feeds_by tag f None =
     assign (value_to f) f.width (Copy (Named (value_from f)))
@@ -88,7 +89,7 @@ abbrev pub feed_wires : (tag : ℕ) → List Feed → List Wire
 feed_wires tag [] = []
 feed_wires tag (f ∷ fs) = feeds_by tag f f.level ++ feed_wires tag fs
 
--- what each part's netlist has, behind the part's name
+-- What each part's netlist has, behind the part's name.
 abbrev pub copies_of : {X : Type 0} → (items : Net → List X) → (copy : (Name → Name) → X → X) → List NamedNet → List X
 copies_of items copy [] = []
 copies_of items copy (p ∷ ps) = map (copy (in_part p.name)) (items p.net) ++ copies_of items copy ps
@@ -105,7 +106,7 @@ part_inputs parts = copies_of (λ n. n.inputs) copy_input parts
 abbrev pub part_registers : List NamedNet → List Register
 part_registers parts = copies_of (λ n. n.registers) copy_register parts
 
--- the names of inputs that are fed
+-- The names of inputs that are fed.
 abbrev pub fed_names : List Feed → List Name
 fed_names [] = []
 fed_names (f ∷ fs) = value_to f ∷ tag_to f ∷ fed_names fs
@@ -114,7 +115,7 @@ fed_names (f ∷ fs) = value_to f ∷ tag_to f ∷ fed_names fs
 abbrev pub is_fed : List Feed → Name → Bool
 is_fed feeds x = is_among x (fed_names feeds)
 
--- which ports of parts the whole has as what; `fed` tells the names of inputs that are fed
+-- Which ports of parts the whole has as what; `fed` tells the names of inputs that are fed.
 abbrev pub is_free_port : (fed : Name → Bool) → Port → Bool
 is_free_port fed p = is_input p.kind && not (fed p.name)
 
@@ -130,12 +131,12 @@ is_register_port p = is_register p.kind
 abbrev pub is_wire_port : Port → Bool
 is_wire_port p = not (is_input p.kind) && not (is_register p.kind)
 
--- a port for the wire that feeds what was an input
+-- A port for the wire that feeds what was an input.
 abbrev pub as_wire : Port → Port
 as_wire p = record { name = p.name; kind = kind.Wire }
 
--- Ports of parts: all free inputs, then all registers, then all wires; and then what feeds inputs, so that it keeps its names when the netlist is made
--- small.
+-- Ports of parts: all free inputs, then all registers, then all wires; and then what feeds inputs, so that it keeps its
+-- names when the netlist is made small.
 abbrev pub ports_by : (fed : Name → Bool) → List Port → List Port
 ports_by fed ports =
     filter (is_free_port fed) ports
@@ -155,7 +156,7 @@ is_free_input fed i = not (fed i.name)
 abbrev pub free_inputs : List NamedNet → List Feed → List Input
 free_inputs parts feeds = filter (is_free_input (is_fed feeds)) (part_inputs parts)
 
--- the names of ports, and then those of some things that no port shows
+-- The names of ports, and then those of some things that no port shows.
 abbrev pub port_names : List Port → List Name
 port_names ports = map (λ (p : Port). p.name) ports
 
@@ -171,15 +172,17 @@ is_shown_register shown r = shown r.name
 abbrev pub is_hidden_register : (shown : Name → Bool) → Register → Bool
 is_hidden_register shown r = not (shown r.name)
 
--- registers that ports show stand in front of the others
+-- Registers that ports show stand in front of the others.
 abbrev pub shown_first : (shown : Name → Bool) → List Register → List Register
 shown_first shown rs = filter (is_shown_register shown) rs ++ filter (is_hidden_register shown) rs
 
--- the names of all wires, registers and memories
+-- The names of all wires, registers and memories.
 abbrev pub names_within : List Wire → List Register → List Memory → List Name
-names_within ws rs ms = map (λ (w : Wire). w.name) ws ++ map (λ (r : Register). r.name) rs ++ map (λ (m : Memory). m.name) ms
+names_within ws rs ms = map (λ (w : Wire). w.name) ws ++ map (λ (r : Register). r.name) rs
+    ++ map (λ (m : Memory). m.name) ms
 
--- Wires that feed stand first: they read nothing but registers. Names and registers that ports show stand in front of the others.
+-- Wires that feed stand first: they read nothing but registers. Names and registers that ports show stand in front of
+-- the others.
 abbrev pub joined : (tag : ℕ) → List NamedNet → List Feed → Net
 joined tag parts feeds =
     let ports = joined_ports parts feeds in

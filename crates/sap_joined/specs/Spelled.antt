@@ -15,7 +15,7 @@ use Rattle.sap_net.specs.Names.{is_inner}
 abbrev pub IsSpelled : Name → Type 0
 IsSpelled x = list_all is_inner x ≡ true
 
--- each name that it has or reads is spelled so
+-- Each name that it has or reads is spelled so.
 abbrev pub OperandSpelled : Operand → Type 0
 OperandSpelled (Named x) = IsSpelled x
 OperandSpelled (Constant u n) = Unit {0}

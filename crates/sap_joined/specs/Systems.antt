@@ -1,4 +1,5 @@
--- The netlists and the feeds of a system, by the names of its parts and entities; and the law that joined they are the netlist of the system.
+-- The netlists and the feeds of a system, by the names of its parts and entities; and the law that joined they are the
+-- netlist of the system.
 use Rattle.std.specs.Prelude.{◌≡◌, ◌<◌, ℕ, suc, List, [], ◌∷◌, map, length}
 use Rattle.std.specs.Option.{option_map}
 use Rattle.sap_lattice.specs.Codes.{code_of, width_of}
@@ -10,7 +11,7 @@ use Rattle.sap_linked.specs.Linking.{IsNetOf}
 use Rattle.sap_linked.specs.Netlist.{linked_net}
 use Rattle.sap_joined.specs.Joined.{NamedNet, Feed, joined}
 
--- the netlist of each part under the part's name; i is the number of the first part
+-- The netlist of each part under the part's name; i is the number of the first part.
 abbrev pub nets_from : (nets : ℕ → Net) → (i : ℕ) → List Part → List NamedNet
 nets_from nets i [] = []
 nets_from nets i (p ∷ ps) = record { name = p.name; net = nets i } ∷ nets_from nets (suc i) ps
@@ -19,7 +20,7 @@ nets_from nets i (p ∷ ps) = record { name = p.name; net = nets i } ∷ nets_fr
 abbrev pub named_nets : NamedSystem → (nets : ℕ → Net) → List NamedNet
 named_nets s nets = nets_from nets 0 s.parts
 
--- a wire by names, with the code of its level
+-- A wire by names, with the code of its level.
 abbrev pub feed_of : NamedSystem → Wire → Feed
 feed_of s w =
     let from = part_at s w.from.part in
@@ -40,5 +41,6 @@ feeds_of s = map (feed_of s) s.wires
 -- Where names of parts and wires break no rule, and each netlist stands for its part's design.
 abbrev pub JoinedIsLinked : Type 0
 JoinedIsLinked =
-    (s : NamedSystem) (nets : ℕ → Net) → NamesFit s → WiresFit (system_of s) → ((i : ℕ) → i < length s.parts → IsNetOf s.order (part_at s i) (nets i))
+    (s : NamedSystem) (nets : ℕ → Net) → NamesFit s → WiresFit (system_of s)
+    → ((i : ℕ) → i < length s.parts → IsNetOf s.order (part_at s i) (nets i))
     → linked_net s nets ≡ joined (width_of s.order) (named_nets s nets) (feeds_of s)

@@ -21,23 +21,25 @@ pub record IsFileOf (bytes : List ℕ) (names : List (List ℕ)) (pairs : List P
   pub is_document : IsDocument bytes document
   pub lists : Lists document names pairs
 
--- L1: the bytes are no document
+-- L1: the bytes are no document.
 abbrev pub IsNoDocument : List ℕ → Type 0
 IsNoDocument bytes = (document : Members) → ¬ IsDocument bytes document
 
--- L2: the bytes are a document that lists no names and pairs
+-- L2: the bytes are a document that lists no names and pairs.
 pub record HasOtherShape (bytes : List ℕ) : Type 0 where
   pub document : Members
   pub is_document : IsDocument bytes document
   pub other : (names : List (List ℕ)) (pairs : List Pair) → ¬ Lists document names pairs
 
--- what each answer says: the rule that is broken first, L1 and L2 before those on names and pairs
+-- What each answer says: the rule that is broken first, L1 and L2 before those on names and pairs.
 abbrev pub FirstFault : List ℕ → LatFileFault → Type 0
 FirstFault bytes NotToml = IsNoDocument bytes
 FirstFault bytes Shape = HasOtherShape bytes
-FirstFault bytes (Rule fault) = (names : List (List ℕ)) × (pairs : List Pair) × IsFileOf bytes names pairs × FirstBroken names pairs fault
+FirstFault bytes (Rule fault) = (names : List (List ℕ)) × (pairs : List Pair)
+    × IsFileOf bytes names pairs × FirstBroken names pairs fault
 FirstFault bytes Memory = ⊥
 
 -- `l` is the lattice of the names and pairs of the file.
 abbrev pub IsLatticeOfFile : List ℕ → Levels → Type 0
-IsLatticeOfFile bytes l = (names : List (List ℕ)) × (pairs : List Pair) × IsFileOf bytes names pairs × IsLatticeOf names pairs l
+IsLatticeOfFile bytes l = (names : List (List ℕ)) × (pairs : List Pair) × IsFileOf bytes names pairs
+    × IsLatticeOf names pairs l

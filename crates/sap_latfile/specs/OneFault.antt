@@ -4,10 +4,10 @@ use Rattle.sap_lattice.specs.Levels.{Levels}
 use Rattle.sap_latfile.specs.LatticeFile.{FirstFault, IsLatticeOfFile}
 use Rattle.sap_latfile.specs.declared.fault.LatFileFault.{LatFileFault}
 
--- a file has at most one first fault
+-- A file has at most one first fault.
 abbrev pub OneFault : Type 0
 OneFault = (bytes : List ℕ) (one other : LatFileFault) → FirstFault bytes one → FirstFault bytes other → one ≡ other
 
--- and none where it is a lattice
+-- And none where it is a lattice.
 abbrev pub NotBoth : Type 0
 NotBoth = (bytes : List ℕ) (l : Levels) (fault : LatFileFault) → IsLatticeOfFile bytes l → FirstFault bytes fault → ⊥

@@ -3,7 +3,7 @@ use Rattle.std.specs.Prelude.{ℕ, Bool, true, false, List, [], ◌∷◌, codes
 use Rattle.sap_lattice.specs.Levels.{Levels}
 use Rattle.sap_lattice.specs.declared.pair.Pair.{Pair}
 
--- the levels, in the order of a lattice file
+-- The levels, in the order of a lattice file.
 abbrev pub level_names : List (List ℕ)
 level_names = codes "low" ∷ codes "a" ∷ codes "b" ∷ codes "high" ∷ []
 
@@ -11,11 +11,12 @@ level_names = codes "low" ∷ codes "a" ∷ codes "b" ∷ codes "high" ∷ []
 abbrev pub pair : (lower upper : List ℕ) → Pair
 pair lower upper = record { lower = lower; upper = upper }
 
--- the pairs of levels, the lower one first, that give the order
+-- The pairs of levels, the lower one first, that give the order.
 abbrev pub level_pairs : List Pair
-level_pairs = pair (codes "low") (codes "a") ∷ pair (codes "low") (codes "b") ∷ pair (codes "a") (codes "high") ∷ pair (codes "b") (codes "high") ∷ []
+level_pairs = pair (codes "low") (codes "a") ∷ pair (codes "low") (codes "b")
+    ∷ pair (codes "a") (codes "high") ∷ pair (codes "b") (codes "high") ∷ []
 
--- whether the level of each row is at or below each level
+-- Whether the level of each row is at or below each level.
 abbrev pub table : List (List Bool)
 table = (true ∷ true ∷ true ∷ true ∷ [])
     ∷ (false ∷ true ∷ false ∷ true ∷ [])
@@ -23,6 +24,6 @@ table = (true ∷ true ∷ true ∷ true ∷ [])
     ∷ (false ∷ false ∷ false ∷ true ∷ [])
     ∷ []
 
--- the lattice of these names and pairs
+-- The lattice of these names and pairs.
 unfoldable pub diamond : Levels
 diamond = record { names = level_names; table = table }

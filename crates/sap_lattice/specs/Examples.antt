@@ -2,6 +2,6 @@
 use Rattle.std.specs.Prelude.{true, false, [], ◌∷◌, codes}
 use Rattle.sap_lattice.specs.Levels.{Levels}
 
--- low is below high
+-- Low is below high.
 abbrev pub low_high : Levels
 low_high = record { names = codes "low" ∷ codes "high" ∷ []; table = (true ∷ true ∷ []) ∷ (false ∷ true ∷ []) ∷ [] }

@@ -4,7 +4,7 @@ use Rattle.sap_lattice.specs.Levels.{Levels, numbers, order_of}
 use Rattle.sap_lattice.specs.Codes.{code_of, width_of}
 use Rattle.sap_lattice.specs.Lawful.{IsLattice}
 
--- a level is at or below another where its code is within the other's
+-- A level is at or below another where its code is within the other's.
 abbrev pub table_of : List ℕ → List (List Bool)
 table_of codes = map (λ c. map (λ d. bit_or c d == d) codes) codes
 
@@ -12,7 +12,7 @@ table_of codes = map (λ c. map (λ d. bit_or c d == d) codes) codes
 abbrev pub levels_of : List (List ℕ) → List ℕ → Levels
 levels_of names codes = record { names = names; table = table_of codes }
 
--- the parts are those of a lattice
+-- The parts are those of a lattice.
 pub record IsKept (l : Levels) (codes : List ℕ) (width bottom top : ℕ) : Type 0 where
   pub lattice : IsLattice l
   pub codes_are : codes ≡ map (code_of (order_of l)) (numbers (length l.names))

@@ -5,11 +5,11 @@ use Rattle.sap_lattice.specs.Levels.{Levels, order_of}
 use Rattle.sap_lattice.specs.Codes.{Codes, width_of}
 use Rattle.sap_lattice.specs.Rules.{KeepsNames}
 
--- no two levels are each at or below the other
+-- No two levels are each at or below the other.
 abbrev pub IsAntisymmetric : Order → Type 0
 IsAntisymmetric o = (x y : ℕ) → x < o.count → y < o.count → o.le x y ≡ true → o.le y x ≡ true → x ≡ y
 
--- a code has a bit at least, and fewer bits than there are levels
+-- A code has a bit at least, and fewer bits than there are levels.
 pub record IsNarrow (o : Order) : Type 0 where
   pub some : 0 < width_of o
   pub few : width_of o < o.count

@@ -1,4 +1,5 @@
--- The definitions of levels and lattices that proofs of other crates name, each from the file in which it stands. Declares nothing.
+-- The definitions of levels and lattices that proofs of other crates name, each from the file in which it stands.
+-- Declares nothing.
 pub use Rattle.sap_lattice.specs.Built.{IsLatticeOf}
 pub use Rattle.sap_lattice.specs.Closure.{Below, name_at}
 unfoldable pub use Rattle.sap_lattice.specs.Codes.{code_of, meet_irreducibles}

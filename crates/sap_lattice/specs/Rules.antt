@@ -6,7 +6,7 @@ use Rattle.sap_lattice.specs.declared.fault.LatFault.TheVariants.{Count, Bad, Un
 use Rattle.sap_text.specs.Names.{is_word, is_among, design_keywords}
 use Rattle.sap_lattice.specs.Closure.{Below, IsLevel, IsJoin, IsLeast, name_at}
 
--- L3: there are too few or too many levels
+-- L3: there are too few or too many levels.
 abbrev pub BadCount : List (List ℕ) → Type 0
 BadCount names = (length names < 2) ⊎ (64 < length names)
 
@@ -73,17 +73,17 @@ pub record KeepsAll (names : List (List ℕ)) (pairs : List Pair) : Type 0 where
   pub before : KeepsJoins names pairs
   pub least : ¬ HasNoLeast names pairs
 
--- k is the first number of which it is true
+-- `k` is the first number of which it is true.
 pub record IsFirst (P : ℕ → Type 0) (k : ℕ) : Type 0 where
   pub here : P k
   pub none_before : (j : ℕ) → j < k → ¬ P j
 
--- x and y are the first two numbers of which it is true, by x and then by y
+-- `x` and y are the first two numbers of which it is true, by x and then by y.
 pub record IsFirstPair (P : ℕ → ℕ → Type 0) (x y : ℕ) : Type 0 where
   pub here : P x y
   pub none_before : (u v : ℕ) → (u < x) ⊎ ((u ≡ x) × (v < y)) → ¬ P u v
 
--- a and b are the names of the first two such levels
+-- `a` and b are the names of the first two such levels.
 pub record AreNamesOfFirst (names : List (List ℕ)) (P : ℕ → ℕ → Type 0) (a b : List ℕ) : Type 0 where
   pub left : ℕ
   pub right : ℕ
@@ -91,7 +91,7 @@ pub record AreNamesOfFirst (names : List (List ℕ)) (P : ℕ → ℕ → Type 0
   pub left_name : a ≡ name_at names left
   pub right_name : b ≡ name_at names right
 
--- what each answer says: the rule that is broken first, and where; positions count from 1
+-- What each answer says: the rule that is broken first, and where; positions count from 1.
 abbrev pub FirstBroken : List (List ℕ) → List Pair → LatFault → Type 0
 FirstBroken names pairs (Count n) = BadCount names × (n ≡ length names)
 FirstBroken names pairs (Bad p) = KeepsCount names × ((k : ℕ) × IsFirst (BadLevel names) k × (p ≡ k + 1))

@@ -6,10 +6,10 @@ use Rattle.sap_tree.specs.Bare.{bare}
 use Rattle.sap_shape.specs.WellFormed.{WellFormed}
 use Rattle.sap_resolved.specs.Fill.{program_of}
 
--- where one is well formed, so is the other
+-- Where one is well formed, so is the other.
 abbrev pub FormedAlike : Type 0
 FormedAlike = (ls : Levels) (one other : DesignTree) → bare one ≡ bare other → WellFormed ls one → WellFormed ls other
 
--- both have one program, and so one labelled meaning
+-- Both have one program, and so one labelled meaning.
 abbrev pub OneProgram : Type 0
 OneProgram = (ls : Levels) (one other : DesignTree) → bare one ≡ bare other → program_of ls one ≡ program_of ls other

@@ -75,7 +75,8 @@ sign_or None len other = other
 
 -- The sign at the front of a text: one of two bytes before one of one byte.
 unfoldable pub sign_at : List ℕ → Lexeme
-sign_at bytes = sign_or (sign_of (take 2 bytes)) (length (take 2 bytes)) (sign_or (sign_of (take 1 bytes)) (length (take 1 bytes)) Bad)
+sign_at bytes = sign_or (sign_of (take 2 bytes)) (length (take 2 bytes))
+    (sign_or (sign_of (take 1 bytes)) (length (take 1 bytes)) Bad)
 
 -- What is at the front of a text: a blank or a comment, a token, or a byte that begins none.
 unfoldable pub lexeme_of : List ℕ → Lexeme

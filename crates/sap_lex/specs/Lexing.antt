@@ -37,8 +37,8 @@ pub record StandsAt (text : List ℕ) (n : ℕ) (token : Token) (len : ℕ) : Ty
 abbrev pub Reached : List ℕ → ℕ → List Token → Type 0
 Reached text = walk.Reached (IsBlankAt text) (StandsAt text)
 
--- Where the first token of a text is the name `sapper`, it is a word, and so is a second one that is the number 2, spelled by one digit. Behind them
--- the keywords of the second version are words.
+-- Where the first token of a text is the name `sapper`, it is a word, and so is a second one that is the number 2,
+-- spelled by one digit. Behind them the keywords of the second version are words.
 
 -- The first token of a design of version 2 is the name `sapper`.
 abbrev pub is_sapper : Kind → Bool
@@ -90,7 +90,7 @@ unfoldable pub keyed : List Token → List Token
 keyed [] = []
 keyed (t ∷ ts) = if is_sapper t.kind then with_kind t (k.Word w.Sapper) ∷ behind_sapper ts else t ∷ ts
 
--- each token has a byte
+-- Each token has a byte.
 abbrev pub AreSpanned : List Token → Type 0
 AreSpanned tokens = AllByRecursion (λ t. t.from < t.to) tokens
 
@@ -117,7 +117,7 @@ unfoldable pub version_of : List Token → Version
 version_of [] = v.One
 version_of (t ∷ ts) = version_of_kind t.kind
 
--- behind these tokens no token and no blank begins at this place
+-- Behind these tokens no token and no blank begins at this place.
 pub record IsBadAt (text : List ℕ) (place : Place) : Type 0 where
   pub at : ℕ
   pub within : at < length text
@@ -133,7 +133,7 @@ IsLexFault text (f.E2 place) = ⊥
 IsLexFault text (f.E18 place limit) = ⊥
 IsLexFault text f.Memory = ⊥
 
--- a lexeme is no longer than the text
+-- A lexeme is no longer than the text.
 abbrev pub IsWithin : List ℕ → Lexeme → Type 0
 IsWithin text (l.Blank len) = (0 < len) × (len ≤ length text)
 IsWithin text (l.Token kind len) = (0 < len) × (len ≤ length text)

@@ -14,7 +14,7 @@ use Rattle.sap_lex.specs.declared.token.Kind.TheVariants as k
 use Rattle.sap_lex.specs.declared.token.Kind.{Kind}
 use Rattle.sap_lex.specs.declared.token.Token.{Token}
 
--- digits of a base that spell n, which is below 2^64
+-- Digits of a base that spell n, which is below 2^64.
 pub record SpellsNumber (class : Class) (base n : ℕ) (text : List ℕ) : Type 0 where
   pub some : 0 < length text
   pub digits : list_all (is_in class) text ≡ true
@@ -23,12 +23,14 @@ pub record SpellsNumber (class : Class) (base n : ℕ) (text : List ℕ) : Type 
 
 -- A text spells a sized number in decimal or in hexadecimal digits.
 pub data SpellsSized (width n : ℕ) (text : List ℕ) : Type 0 where
-  decimal : (front digits : List ℕ) → text ≡ front ++ (codes "'d" ++ digits) → SpellsNumber c.Decimal 10 width front → SpellsNumber c.Decimal 10 n digits
+  decimal : (front digits : List ℕ) → text ≡ front ++ (codes "'d" ++ digits)
+      → SpellsNumber c.Decimal 10 width front → SpellsNumber c.Decimal 10 n digits
       → SpellsSized width n text
-  hexadecimal : (front digits : List ℕ) → text ≡ front ++ (codes "'h" ++ digits) → SpellsNumber c.Decimal 10 width front → SpellsNumber c.Hexadecimal 16 n digits
+  hexadecimal : (front digits : List ℕ) → text ≡ front ++ (codes "'h" ++ digits)
+      → SpellsNumber c.Decimal 10 width front → SpellsNumber c.Hexadecimal 16 n digits
       → SpellsSized width n text
 
--- words of the second version alone
+-- Words of the second version alone.
 abbrev pub is_later : Word → Bool
 is_later w.Then = true
 is_later w.Case = true
@@ -40,7 +42,7 @@ is_later word = false
 abbrev pub is_of : Version → Word → Bool
 is_of version word = is_second version || not (is_later word)
 
--- in a text of this version
+-- In a text of this version.
 abbrev pub Spells : Version → Kind → List ℕ → Type 0
 Spells version (k.Word word) text = (text ≡ word_text word) × (is_of version word ≡ true)
 Spells version (k.Sign sign) text = text ≡ sign_text sign
@@ -48,7 +50,7 @@ Spells version (k.Name name) text = (text ≡ name) × (is_word name ≡ true) �
 Spells version (k.Number n) text = SpellsNumber c.Decimal 10 n text
 Spells version (k.Sized width n) text = SpellsSized width n text
 
--- the slice of the source at a token's span
+-- The slice of the source at a token's span.
 abbrev pub text_of : List ℕ → Token → List ℕ
 text_of source token = take (token.to - token.from) (drop token.from source)
 
@@ -56,7 +58,7 @@ text_of source token = take (token.to - token.from) (drop token.from source)
 abbrev pub HasText : Version → List ℕ → Token → Type 0
 HasText version source token = Spells version token.kind (text_of source token)
 
--- each span begins where the last one ends, or behind it, and has a byte; they lie between these two bytes
+-- Each span begins where the last one ends, or behind it, and has a byte; they lie between these two bytes.
 abbrev pub AreInOrder : ℕ → ℕ → List Token → Type 0
 AreInOrder from to [] = from ≤ to
 AreInOrder from to (token ∷ tokens) = (from ≤ token.from) × (token.from < token.to) × AreInOrder token.to to tokens

@@ -42,7 +42,8 @@ pair_signs = s.Becomes ∷ s.Equal ∷ s.NotEqual ∷ s.LessOrEqual ∷ s.ShiftL
 
 -- The signs of one byte.
 abbrev pub single_signs : List Sign
-single_signs = s.OpenParen ∷ s.CloseParen ∷ s.OpenBrace ∷ s.CloseBrace ∷ s.OpenBracket ∷ s.CloseBracket ∷ s.Colon ∷ s.Semicolon ∷ s.Comma
+single_signs = s.OpenParen ∷ s.CloseParen ∷ s.OpenBrace ∷ s.CloseBrace ∷ s.OpenBracket ∷ s.CloseBracket
+    ∷ s.Colon ∷ s.Semicolon ∷ s.Comma
     ∷ s.Question ∷ s.Is ∷ s.Less ∷ s.Plus ∷ s.Minus ∷ s.Star ∷ s.Ampersand ∷ s.Bar ∷ s.Caret ∷ s.Tilde ∷ []
 
 -- All signs.
@@ -57,7 +58,7 @@ sign_among list text = find (λ sign. bytes_eq text (sign_text sign)) list
 abbrev pub sign_of : List ℕ → Option Sign
 sign_of text = sign_among signs text
 
--- the sign that two bytes spell, and the one that a single byte does
+-- The sign that two bytes spell, and the one that a single byte does.
 unfoldable pub pair_sign : ℕ → ℕ → Option Sign
 pair_sign first second = sign_among pair_signs (first ∷ second ∷ [])
 
@@ -73,7 +74,7 @@ word_among list text = find (λ word. bytes_eq text (word_text word)) list
 abbrev pub word_of : List ℕ → Option Word
 word_of text = word_among first_words text
 
--- the same words by where they stand: in declarations, in commands, and in expressions, of values or of tags
+-- The same words by where they stand: in declarations, in commands, and in expressions, of values or of tags.
 abbrev pub declaration_words : List Word
 declaration_words = w.Input ∷ w.Reg ∷ w.Mem ∷ w.State ∷ w.Dynamic ∷ w.Enforced ∷ w.Under ∷ []
 
@@ -85,7 +86,7 @@ command_words = w.If ∷ w.Else ∷ w.Goto ∷ w.Fall ∷ w.SetTag ∷ w.Otherwi
 abbrev pub expression_words : List Word
 expression_words = w.Tag ∷ w.Level ∷ w.Join ∷ w.Zext ∷ []
 
--- the word of each of these kinds that is spelled so
+-- The word of each of these kinds that is spelled so.
 unfoldable pub declaration_word : List ℕ → Option Word
 declaration_word text = word_among declaration_words text
 

@@ -14,33 +14,36 @@ use Rattle.sap_lines.specs.declared.next.Next.TheVariants.{Line, End, Fault, Fai
 use Rattle.sap_lines.specs.Fetched.{ReadsLeast}
 use Rattle.sap_lines.specs.Reader.{Reader, to_come}
 
+-- The answer is a line.
 abbrev pub is_line : Next → Bool
 is_line Line = true
 is_line End = false
 is_line (Fault fault) = false
 is_line Failed = false
 
+-- The answer is a failed call.
 abbrev pub is_failed : Next → Bool
 is_failed Line = false
 is_failed End = false
 is_failed (Fault fault) = false
 is_failed Failed = true
 
--- how many lines an answer gives
+-- How many lines an answer gives.
 abbrev pub lines_in : Next → ℕ
 lines_in Line = 1
 lines_in End = 0
 lines_in (Fault fault) = 0
 lines_in Failed = 0
 
--- how many lines were given after an answer
+-- How many lines were given after an answer.
 abbrev pub count_after : Next → (count : ℕ) → ℕ
 count_after Line count = counted count
 count_after End count = count
 count_after (Fault fault) count = count
 count_after Failed count = count
 
--- What an answer tells of the lines that were to come: the cycles of the first of them, before those that are to come then; that there was none; that the first was refused, and why.
+-- What an answer tells of the lines that were to come: the cycles of the first of them, before those that are to come
+-- then; that there was none; that the first was refused, and why.
 abbrev pub Tells : Next → (before : Parsed) → (line : Span) → (after : Parsed) → Type 0
 Tells Line before line after = before ≡ ahead line after
 Tells End before line after = before ≡ finished
@@ -49,9 +52,10 @@ Tells Failed before line after = Unit {0}
 
 -- It tells this by these bytes: they were to come, and behind them anything where it is a line, else nothing.
 abbrev pub TellsBy : Levels → Next → (was now : Reader) → (more : List ℕ) → Type 0
-TellsBy ls next was now more = (rest : List ℕ) → IsTrue (is_line next) ⊎ (rest ≡ []) → Tells next (to_come ls was (more ++ rest)) now.line (to_come ls now rest)
+TellsBy ls next was now more = (rest : List ℕ) → IsTrue (is_line next) ⊎ (rest ≡ [])
+    → Tells next (to_come ls was (more ++ rest)) now.line (to_come ls now rest)
 
--- on every desk it tells this by some bytes
+-- On every desk it tells this by some bytes.
 abbrev pub TellsSome : Levels → Next → (was now : Reader) → Type 0
 TellsSome ls next was now = (more : List ℕ) × TellsBy ls next was now more
 
@@ -61,33 +65,36 @@ pub record BeginsWith (ls : Levels) (fs : List Field) (bytes : List ℕ) (line :
   pub gives : line_of ls fs true (before_first (λ b. b == 10) bytes) ≡ Ok line
   pub behind : left ≡ after_first (λ b. b == 10) bytes
 
--- a line is taken: the pending bytes, and these behind them, begin with it, and what stands behind its LF is pending then
+-- A line is taken: the pending bytes, and these behind them, begin with it, and what stands behind its LF is pending
+-- then.
 abbrev pub TakesLine : Levels → (was now : Reader) → (more : List ℕ) → Type 0
 TakesLine ls was now more = BeginsWith ls was.fields (was.pending ++ more) now.line now.pending
 
--- on every desk it is taken of the pending bytes and of so many more
+-- On every desk it is taken of the pending bytes and of so many more.
 abbrev pub TakesSome : Levels → (was now : Reader) → (count : ℕ) → Type 0
 TakesSome ls was now count = (more : List ℕ) × (length more ≡ count) × TakesLine ls was now more
 
--- a failed call counts once, as a fault
+-- A failed call counts once, as a fault.
 abbrev pub Counted : Next → (faults now : ℕ) → Type 0
 Counted Line faults now = now ≡ faults
 Counted End faults now = now ≡ faults
 Counted (Fault fault) faults now = now ≡ faults
 Counted Failed faults now = now ≡ counted faults
 
--- a failed call blames the file of its channel, named as the channel was before
+-- A failed call blames the file of its channel, named as the channel was before.
 abbrev pub blamed_by : Next → (channel : ℕ) → (name : List ℕ) → Told → Told
 blamed_by Line channel name t = t
 blamed_by End channel name t = t
 blamed_by (Fault fault) channel name t = t
 blamed_by Failed channel name t = blame_at channel name t
 
--- So many bytes more were read of a channel, and nothing else changed but the blame. A piece was asked for only where all lines that end in the bytes read before it were
--- taken.
-pub record ReadOn (next : Next) (channel : ℕ) (pending : List ℕ) (told_was told_now : Option Told) (given_was given_now : ℕ → ℕ) : Type 0 where
+-- So many bytes more were read of a channel, and nothing else changed but the blame. A piece was asked for only where
+-- all lines that end in the bytes read before it were taken.
+pub record ReadOn (next : Next) (channel : ℕ) (pending : List ℕ) (told_was told_now : Option Told)
+    (given_was given_now : ℕ → ℕ) : Type 0 where
   pub asked : Option ℕ
   pub count : ℕ
   pub least : IfSome told_was (ReadsLeast channel pending asked count)
-  pub told : told_now ≡ option_map (λ t. blamed_by next channel (name_if_reading (t.uses channel)) (read_on channel asked count t)) told_was
+  pub told : told_now ≡ option_map (λ t. blamed_by next channel (name_if_reading (t.uses channel))
+      (read_on channel asked count t)) told_was
   pub given : given_now ≡ at_number channel (given_was channel + count) given_was

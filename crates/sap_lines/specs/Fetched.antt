@@ -10,27 +10,30 @@ pub record EndsAt (start ended : ℕ) (bytes : List ℕ) : Type 0 where
   pub none : (k : ℕ) → ended ≤ k → k < length bytes → slice_index_or bytes k 0 ≢ 10
   pub last : start < ended → slice_index_or bytes (ended - 1) 0 ≡ 10
 
--- the next line is told by the first bytes of what is to come: it ends in them, or is too long
+-- The next line is told by the first bytes of what is to come: it ends in them, or is too long.
 abbrev pub IsDecided : List ℕ → Type 0
 IsDecided bytes = (65536 < length bytes) ⊎ (list_any (λ b. b == 10) bytes ≡ true)
 
--- or none come behind them
+-- Or none come behind them.
 abbrev pub EndsOrDecided : (channel : ℕ) → List ℕ → Told → Type 0
 EndsOrDecided channel bytes t = IsDecided bytes ⊎ (rest_of t channel ≡ [])
 
--- Where the last piece was asked for, behind the bytes that were held: these and so many more didn't tell the line, and all others are of that piece. Where none was asked
--- for, nothing more is held.
+-- Where the last piece was asked for, behind the bytes that were held: these and so many more didn't tell the line, and
+-- all others are of that piece. Where none was asked for, nothing more is held.
 abbrev pub HoldsLeast : (held now : List ℕ) → (asked : Option ℕ) → Type 0
 HoldsLeast held now None = now ≡ held
-HoldsLeast held now (Some few) = (length held + few ≤ length now) × (length now ≤ length held + few + 4096) × (¬ IsDecided (take (length held + few) now))
+HoldsLeast held now (Some few) = (length held + few ≤ length now)
+    × (length now ≤ length held + few + 4096) × (¬ IsDecided (take (length held + few) now))
 
 -- The same of what is read of a channel behind the bytes that are pending.
 abbrev pub ReadsLeast : (channel : ℕ) → (pending : List ℕ) → (asked : Option ℕ) → (count : ℕ) → Told → Type 0
 ReadsLeast channel pending None count t = count ≡ 0
-ReadsLeast channel pending (Some few) count t = IsReadTo None (rest_of t channel) few count × (¬ IsDecided (pending ++ take few (rest_of t channel)))
+ReadsLeast channel pending (Some few) count t = IsReadTo None (rest_of t channel) few count
+    × (¬ IsDecided (pending ++ take few (rest_of t channel)))
 
--- so many bytes more were read of a channel, behind those that were held, and nothing else changed
-pub record More (channel : ℕ) (held now : List ℕ) (told_was told_now : Option Told) (given_was given_now : ℕ → ℕ) : Type 0 where
+-- So many bytes more were read of a channel, behind those that were held, and nothing else changed.
+pub record More (channel : ℕ) (held now : List ℕ) (told_was told_now : Option Told)
+    (given_was given_now : ℕ → ℕ) : Type 0 where
   pub asked : Option ℕ
   pub least : HoldsLeast held now asked
   pub count : ℕ
@@ -39,12 +42,13 @@ pub record More (channel : ℕ) (held now : List ℕ) (told_was told_now : Optio
   pub bytes : IfSome told_was (λ t. now ++ drop count (rest_of t channel) ≡ held ++ rest_of t channel)
   pub given : given_now ≡ at_number channel (given_was channel + count) given_was
 
--- a read of a channel failed: its file is blamed
+-- A read of a channel failed: its file is blamed.
 abbrev pub read_failed : (channel : ℕ) → Told → Told
 read_failed channel t = blame_at channel (name_if_reading (t.uses channel)) t
 
 -- Bytes were read, and then a read failed, which was asked for behind them all.
-pub record MoreAndFailed (channel : ℕ) (held now : List ℕ) (told_was told_now : Option Told) (given_was given_now : ℕ → ℕ) : Type 0 where
+pub record MoreAndFailed (channel : ℕ) (held now : List ℕ) (told_was told_now : Option Told)
+    (given_was given_now : ℕ → ℕ) : Type 0 where
   pub count : ℕ
   pub size : length now ≡ length held + count
   pub told : told_now ≡ option_map (λ t. read_failed channel (read_on channel (Some count) count t)) told_was

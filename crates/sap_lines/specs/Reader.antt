@@ -6,6 +6,7 @@ use Rattle.sap_stim.specs.declared.field.Field.{Field}
 use Rattle.sap_stim.specs.declared.stimulus.Parsed.{Parsed}
 use Rattle.sap_stim.specs.Stimulus.{read_from}
 
+-- A reader of a stimulus: its fields, whether it goes on, how many lines it took, and what it has of the next.
 pub record Reader : Type 0 where
   -- the fields of each line
   pub fields : List Field
@@ -18,17 +19,17 @@ pub record Reader : Type 0 where
   -- the bytes that were read behind these lines
   pub pending : List ℕ
 
--- a reader of lines with these fields, which has read nothing
+-- A reader of lines with these fields, which has read nothing.
 pub record IsNew (fs : List Field) (r : Reader) : Type 0 where
   pub fields : r.fields ≡ fs
   pub live : r.live ≡ true
   pub count : r.count ≡ 0
   pub pending : r.pending ≡ []
 
--- what the lines give behind those that were given, where these bytes are left to read
+-- What the lines give behind those that were given, where these bytes are left to read.
 abbrev pub to_come : Levels → Reader → (rest : List ℕ) → Parsed
 to_come ls r rest = read_from ls r.fields (r.count + 1) (r.pending ++ rest)
 
--- for each line, and for each byte behind them, a byte was given by the channel
+-- For each line, and for each byte behind them, a byte was given by the channel.
 abbrev pub Backed : Reader → (given : ℕ) → Type 0
 Backed r given = r.count + length r.pending ≤ given

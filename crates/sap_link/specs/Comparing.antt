@@ -1,4 +1,5 @@
--- Composites that agree at low and composites that don't: of two parts, the second differs in one thing. Level 0 is low, level 1 is high.
+-- Composites that agree at low and composites that don't: of two parts, the second differs in one thing. Level 0 is
+-- low, level 1 is high.
 use Rattle.std.specs.Prelude.{ℕ, zero, suc, List, [], ◌∷◌}
 use Rattle.sap_meaning.specs.Program.{World}
 use Rattle.sap_meaning.specs.Store.{own, put_number, put_level, put_child, Refusal, After, stay}
@@ -8,7 +9,8 @@ use Rattle.sap_link.specs.Systems.{System}
 use Rattle.sap_link.specs.Composites.{CompositeAfter}
 use Rattle.sap_link.specs.Agree.{CompositesAgree}
 
--- two parts with the entities 0 to 3: input a : 8; reg x : 8 dynamic; state S enforced low; state T enforced high; the root is 4
+-- Two parts with the entities 0 to 3: input a : 8; reg x : 8 dynamic; state S enforced low; state T enforced high; the
+-- root is 4.
 abbrev pub two_parts : System
 two_parts = record { order = two_levels; parts = enforced_states ∷ enforced_states ∷ []; wires = [] }
 
@@ -16,20 +18,23 @@ two_parts = record { order = two_levels; parts = enforced_states ∷ enforced_st
 abbrev pub part_world : World
 part_world = enforced_states.world
 
--- the first part is in its first state and refuses nothing, and the second comes to this
+-- The first part is in its first state and refuses nothing, and the second comes to this.
 abbrev pub with_second : After → CompositeAfter
 with_second a zero = stay (first part_world)
 with_second a (suc i) = a
 
--- x has this number and this level in the part's first state, and this is refused
+-- `x` has this number and this level in the part's first state, and this is refused.
 abbrev pub x_is : (number level : ℕ) → List Refusal → After
-x_is n t refused = record { store = put_level part_world (own 1) t (put_number (own 1) n (first part_world)); refused = refused }
+x_is n t refused = record {
+  store = put_level part_world (own 1) t (put_number (own 1) n (first part_world));
+  refused = refused;
+}
 
--- T has this level in the part's first state
+-- T has this level in the part's first state.
 abbrev pub level_of_t : ℕ → After
 level_of_t t = stay (put_level part_world (own 3) t (first part_world))
 
--- the current child of the root is the one at this place in the part's first state, S or T
+-- The current child of the root is the one at this place in the part's first state, S or T.
 abbrev pub child_is : ℕ → After
 child_is n = stay (put_child 4 n (first part_world))
 

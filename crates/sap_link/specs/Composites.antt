@@ -7,11 +7,11 @@ use Rattle.sap_meaning.specs.Cycle.{Tagged, cycle}
 use Rattle.sap_meaning.specs.State.{AllFit, first}
 use Rattle.sap_link.specs.Systems.{Endpoint, endpoint, same_endpoint, Wire, System, part, world, width_at, feeding, inputs_in, free_inputs}
 
--- a state for each part, by the part's number
+-- A state for each part, by the part's number.
 abbrev pub CompositeState : Type 0
 CompositeState = ℕ → Store
 
--- what a composite cycle comes to: for each part its state and what it refused
+-- What a composite cycle comes to: for each part its state and what it refused.
 abbrev pub CompositeAfter : Type 0
 CompositeAfter = ℕ → After
 
@@ -19,9 +19,12 @@ CompositeAfter = ℕ → After
 abbrev pub states_of : CompositeAfter → CompositeState
 states_of a i = (a i).store
 
--- the number and the level of an entity in the states of the parts
+-- The number and the level of an entity in the states of the parts.
 abbrev pub content_at : System → CompositeState → Endpoint → Tagged
-content_at y states e = record { number = number (own e.entity) (states e.part); level = level (world y e.part) (own e.entity) (states e.part) }
+content_at y states e = record {
+  number = number (own e.entity) (states e.part);
+  level = level (world y e.part) (own e.entity) (states e.part);
+}
 
 -- What comes out of a wire whose register has the number and the level of v. Through no level that is just v. Through a
 -- level it has this level, and v's number where v's level is at or below it, else 0.
@@ -33,11 +36,12 @@ let_through o (Some t) v = record { number = if o.le v.level t then v.number els
 abbrev pub carried : System → CompositeState → Wire → Tagged
 carried y states w = let_through y.order w.level (content_at y states w.from)
 
--- what the stream gives a free input, by its place among the free ones
+-- What the stream gives a free input, by its place among the free ones.
 abbrev pub given_to : System → (inputs : List Tagged) → Endpoint → Tagged
-given_to y inputs e = get_or inputs (position_or_len (λ d. same_endpoint d e) (free_inputs y)) (record { number = 0; level = y.order.bottom })
+given_to y inputs e = get_or inputs (position_or_len (λ d. same_endpoint d e) (free_inputs y))
+    (record { number = 0; level = y.order.bottom })
 
--- what an input receives: what the wire that feeds it carries; where there is none, what the stream gives
+-- What an input receives: what the wire that feeds it carries; where there is none, what the stream gives.
 abbrev pub received_by : System → CompositeState → (inputs : List Tagged) → Endpoint → (feeds : Option Wire) → Tagged
 received_by y states inputs e (Some w) = carried y states w
 received_by y states inputs e None = given_to y inputs e
@@ -46,7 +50,7 @@ received_by y states inputs e None = given_to y inputs e
 abbrev pub received : System → CompositeState → (inputs : List Tagged) → Endpoint → Tagged
 received y states inputs e = received_by y states inputs e (feeding y.wires e)
 
--- what the inputs of part i receive, in the order of their declaration
+-- What the inputs of part i receive, in the order of their declaration.
 abbrev pub part_inputs : System → CompositeState → (inputs : List Tagged) → (i : ℕ) → List Tagged
 part_inputs y states inputs i = map (λ x. received y states inputs (endpoint i x)) (inputs_in (world y i))
 
@@ -54,32 +58,34 @@ part_inputs y states inputs i = map (λ x. received y states inputs (endpoint i 
 abbrev pub composite_cycle : System → (inputs : List Tagged) → CompositeState → CompositeAfter
 composite_cycle y inputs states i = cycle (part y i) (part_inputs y states inputs i) (states i)
 
--- the states after each cycle, with what each part refused
+-- The states after each cycle, with what each part refused.
 abbrev pub composite_run_from : System → CompositeState → List (List Tagged) → List CompositeAfter
 composite_run_from y states [] = []
-composite_run_from y states (inputs ∷ rest) = let a = composite_cycle y inputs states in a ∷ composite_run_from y (states_of a) rest
+composite_run_from y states (inputs ∷ rest) = let a = composite_cycle y inputs states in
+    a ∷ composite_run_from y (states_of a) rest
 
 -- The stores of all parts at power-up.
 abbrev pub first_states : System → CompositeState
 first_states y i = first (world y i)
 
--- the run from the first states
+-- The run from the first states.
 abbrev pub composite_run : System → List (List Tagged) → List CompositeAfter
 composite_run y stream = composite_run_from y (first_states y) stream
 
--- a composite run projected to part i
+-- A composite run projected to part i.
 abbrev pub run_of_part : (i : ℕ) → List CompositeAfter → List After
 run_of_part i run = map (λ a. a i) run
 
--- what the inputs of part i receive in each cycle
+-- What the inputs of part i receive in each cycle.
 abbrev pub stream_of_part : System → CompositeState → List (List Tagged) → (i : ℕ) → List (List Tagged)
 stream_of_part y states [] i = []
-stream_of_part y states (inputs ∷ rest) i = part_inputs y states inputs i ∷ stream_of_part y (states_of (composite_cycle y inputs states)) rest i
+stream_of_part y states (inputs ∷ rest) i =
+    part_inputs y states inputs i ∷ stream_of_part y (states_of (composite_cycle y inputs states)) rest i
 
--- one number below 2 to its width and one level for each free input
+-- One number below 2 to its width and one level for each free input.
 abbrev pub InputsFit : System → List Tagged → Type 0
 InputsFit y inputs = AllFit y.order.count (map (width_at y) (free_inputs y)) inputs
 
--- a stream that fits the system: so in every cycle
+-- A stream that fits the system: so in every cycle.
 abbrev pub StreamFits : System → List (List Tagged) → Type 0
 StreamFits y stream = AllByRecursion (InputsFit y) stream

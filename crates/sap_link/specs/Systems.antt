@@ -4,7 +4,7 @@ use Rattle.std.specs.List.{AllByRecursion}
 use Rattle.sap_lattice.specs.Order.{Order}
 use Rattle.sap_meaning.specs.Program.{Entity, World, Program, no_node, kind_is_input, is_input, is_register, width}
 
--- an entity of a part, both by number
+-- An entity of a part, both by number.
 pub record Endpoint : Type 0 where
   pub part : ℕ
   pub entity : ℕ
@@ -23,13 +23,13 @@ pub record Wire : Type 0 where
   pub to : Endpoint
   pub level : Option ℕ
 
--- programs over one order of levels, and the wires between them
+-- Programs over one order of levels, and the wires between them.
 pub record System : Type 0 where
   pub order : Order
   pub parts : List Program
   pub wires : List Wire
 
--- what a number past the last part stands for
+-- What a number past the last part stands for.
 abbrev pub no_part : Order → Program
 no_part o = record { world = record { order = o; entities = []; children = [] }; states = no_node; hang = [] }
 
@@ -41,7 +41,7 @@ part y i = get_or y.parts i (no_part y.order)
 abbrev pub world : System → ℕ → World
 world y i = (part y i).world
 
--- i is the number of a part
+-- `i` is the number of a part.
 abbrev pub IsPart : System → ℕ → Type 0
 IsPart y i = i < length y.parts
 
@@ -49,7 +49,7 @@ IsPart y i = i < length y.parts
 abbrev pub width_at : System → Endpoint → ℕ
 width_at y e = width (world y e.part) e.entity
 
--- the wire that feeds an input
+-- The wire that feeds an input.
 abbrev pub feeding : List Wire → Endpoint → Option Wire
 feeding wires e = find (λ w. same_endpoint w.to e) wires
 
@@ -57,7 +57,7 @@ feeding wires e = find (λ w. same_endpoint w.to e) wires
 abbrev pub is_fed : List Wire → Endpoint → Bool
 is_fed wires e = is_some (feeding wires e)
 
--- the numbers of the inputs among entities, in the order of their declaration; x is the number of the first entity
+-- The numbers of the inputs among entities, in the order of their declaration; x is the number of the first entity.
 abbrev pub inputs_from : (x : ℕ) → List Entity → List ℕ
 inputs_from x [] = []
 inputs_from x (e ∷ es) = if kind_is_input e.kind then x ∷ inputs_from (suc x) es else inputs_from (suc x) es
@@ -66,17 +66,17 @@ inputs_from x (e ∷ es) = if kind_is_input e.kind then x ∷ inputs_from (suc x
 abbrev pub inputs_in : World → List ℕ
 inputs_in w = inputs_from 0 w.entities
 
--- the inputs of parts, parts in order; i is the number of the first part
+-- The inputs of parts, parts in order; i is the number of the first part.
 abbrev pub inputs_of : (i : ℕ) → List Program → List Endpoint
 inputs_of i [] = []
 inputs_of i (p ∷ ps) = map (endpoint i) (inputs_in p.world) ++ inputs_of (suc i) ps
 
--- the inputs that no wire feeds, parts in order: what a stream gives
+-- The inputs that no wire feeds, parts in order: what a stream gives.
 abbrev pub free_inputs : System → List Endpoint
 free_inputs y = filter (λ e. not (is_fed y.wires e)) (inputs_of 0 y.parts)
 
--- It connects a register of a part with an input of a part that is as wide, and where it has a level, that is a level of
--- the order.
+-- It connects a register of a part with an input of a part that is as wide, and where it has a level, that is a level
+-- of the order.
 pub record Connects (y : System) (w : Wire) : Type 0 where
   pub from_part : IsPart y w.from.part
   pub register : is_register (world y w.from.part) w.from.entity ≡ true
@@ -85,12 +85,12 @@ pub record Connects (y : System) (w : Wire) : Type 0 where
   pub widths : width_at y w.from ≡ width_at y w.to
   pub level : (t : ℕ) → w.level ≡ Some t → t < y.order.count
 
--- no input is fed by two wires
+-- No input is fed by two wires.
 abbrev pub FedOnce : List Wire → Type 0
 FedOnce [] = Unit {0}
 FedOnce (w ∷ ws) = (feeding ws w.to ≡ None) × FedOnce ws
 
--- the wires of a system break no rule
+-- The wires of a system break no rule.
 pub record WiresFit (y : System) : Type 0 where
   pub each : AllByRecursion (Connects y) y.wires
   pub once : FedOnce y.wires

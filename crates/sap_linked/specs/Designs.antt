@@ -15,7 +15,7 @@ use Rattle.sap_linked.specs.Linking.{LinksParts}
 use Rattle.sap_linked.specs.Standing.{RunsStand}
 use Rattle.sap_linked.specs.Netlist.{linked_net}
 
--- a design under the name of a part
+-- A design under the name of a part.
 pub record NamedDesign : Type 0 where
   pub name : Name
   pub design : DesignTree
@@ -32,23 +32,28 @@ trees ds = map (λ (d : NamedDesign). d.design) ds
 abbrev pub named_system : Levels → List NamedDesign → List Wire → NamedSystem
 named_system ls ds wires = record { order = order_of ls; parts = map (part_of ls) ds; wires = wires }
 
--- the netlist stands for the design, and starts as it does
+-- The netlist stands for the design, and starts as it does.
 pub record IsNetOfDesign (ls : Levels) (d : DesignTree) (n : Net) : Type 0 where
   pub netlist : IsNetlist n
   pub stands : StandsForDesign ls d n
   pub starts : StartsAsDesign ls d n
 
--- A netlist that links those of well-formed designs, with wires that break no rule, stands for the composite run in each of its runs.
+-- A netlist that links those of well-formed designs, with wires that break no rule, stands for the composite run in
+-- each of its runs.
 abbrev pub LinkedDesignsStand : Type 0
 LinkedDesignsStand =
-    (ls : Levels) (designs : List NamedDesign) (wires : List Wire) → Laws (order_of ls) → Codes (order_of ls) → WellLinked ls (trees designs) wires
+    (ls : Levels) (designs : List NamedDesign) (wires : List Wire) → Laws (order_of ls)
+    → Codes (order_of ls) → WellLinked ls (trees designs) wires
     → let s = named_system ls designs wires in
-    (nets : ℕ → Net) (named : ℕ → Name → Name) (whole : Net) → ((i : ℕ) (d : NamedDesign) → slice_get designs i ≡ Some d → IsNetOfDesign ls d.design (nets i))
+    (nets : ℕ → Net) (named : ℕ → Name → Name) (whole : Net)
+    → ((i : ℕ) (d : NamedDesign) → slice_get designs i ≡ Some d → IsNetOfDesign ls d.design (nets i))
     → LinksParts s nets named whole → RunsStand s whole
 
 -- And the netlist of a system of designs, whose names fit, with wires that break no rule, is a netlist.
 abbrev pub LinkedDesignsAreNetlists : Type 0
 LinkedDesignsAreNetlists =
-    (ls : Levels) (designs : List NamedDesign) (wires : List Wire) → Codes (order_of ls) → WellLinked ls (trees designs) wires
+    (ls : Levels) (designs : List NamedDesign) (wires : List Wire) → Codes (order_of ls)
+    → WellLinked ls (trees designs) wires
     → let s = named_system ls designs wires in
-    NamesFit s → (nets : ℕ → Net) → ((i : ℕ) (d : NamedDesign) → slice_get designs i ≡ Some d → IsNetOfDesign ls d.design (nets i)) → IsNetlist (linked_net s nets)
+    NamesFit s → (nets : ℕ → Net) → ((i : ℕ) (d : NamedDesign) → slice_get designs i ≡ Some d
+    → IsNetOfDesign ls d.design (nets i)) → IsNetlist (linked_net s nets)

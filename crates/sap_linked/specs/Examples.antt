@@ -19,11 +19,14 @@ use Rattle.sap_linked.specs.Interface.{linked_ports}
 use Rattle.sap_linked.specs.Designs.{named_system}
 use Rattle.sap_linked.specs.Netlist.{assign, linked_net}
 
--- p adds 1 to its input, and feeds q through low; q copies its input
+-- `p` adds 1 to its input, and feeds q through low; q copies its input.
 abbrev pub p_and_q : NamedSystem
-p_and_q = named_system low_high (record { name = codes "p"; design = adds } ∷ record { name = codes "q"; design = copies } ∷ []) (wire 0 1 (Some 0) ∷ [])
+p_and_q = named_system low_high (record { name = codes "p"; design = adds } ∷ record {
+  name = codes "q";
+  design = copies;
+} ∷ []) (wire 0 1 (Some 0) ∷ [])
 
--- p's input, both registers, and both sites: q's input is no port
+-- `p`'s input, both registers, and both sites: q's input is no port.
 abbrev pub PortsInOrder : Type 0
 PortsInOrder =
     linked_ports p_and_q
@@ -47,7 +50,7 @@ register x u next = record { name = x; width = u; start = 0; next = Named next }
 abbrev pub port : Name → PortKind → Port
 port x k = record { name = x; kind = k }
 
--- a netlist with the interface of such a design, whose register takes `next`, by some wires
+-- A netlist with the interface of such a design, whose register takes `next`, by some wires.
 abbrev pub simple_net : (input output next : Name) → List Wire → Net
 simple_net input output next wires =
     record {
@@ -81,9 +84,10 @@ simple_net input output next wires =
 
 -- The netlists of the example's two parts.
 abbrev pub simple_nets : ℕ → Net
-simple_nets zero = simple_net (codes "a") (codes "x") (codes "n0") (assign (codes "n0") 8 (Two Add (Named (codes "v_a")) (Constant 8 1)) ∷ [])
+simple_nets zero = simple_net (codes "a") (codes "x") (codes "n0")
+    (assign (codes "n0") 8 (Two Add (Named (codes "v_a")) (Constant 8 1)) ∷ [])
 simple_nets (suc i) = simple_net (codes "b") (codes "y") (codes "v_b") []
 
--- the netlist of the two keeps the rules of netlists
+-- The netlist of the two keeps the rules of netlists.
 abbrev pub LinkedIsNetlist : Type 0
 LinkedIsNetlist = IsNetlist (linked_net p_and_q simple_nets)

@@ -1,4 +1,5 @@
--- The interface of the module of a system: that of each part behind the part's name, where what a wire feeds is no port.
+-- The interface of the module of a system: that of each part behind the part's name, where what a wire feeds is no
+-- port.
 use Rattle.std.specs.Prelude.{◌≡◌, ◌<◌, ◌⊎◌, ◌&&◌, ℕ, suc, Bool, true, not, List, [], ◌∷◌, ◌++◌, length, map, Some}
 use Rattle.std.specs.List.{AllByRecursion}
 use Rattle.sap_maps.specs.Maps.{Name}
@@ -15,46 +16,49 @@ use Rattle.sap_interface.specs.InterfaceNames.{IsInterfaceName}
 use Rattle.sap_link.specs.Systems.{endpoint, Wire, is_fed}
 use Rattle.sap_linked.specs.Parts.{Part, NamedSystem, part_at, in_part}
 
--- a part's ports, with their names in the module of the system
+-- A part's ports, with their names in the module of the system.
 abbrev pub ports_in : Part → List Shown → List Shown
 ports_in p shown = map (λ (port : Shown). (in_part p.name port.0, port.1)) shown
 
--- x is an input of part i that no wire feeds
+-- `x` is an input of part i that no wire feeds.
 abbrev pub is_free : List Wire → Part → (i : ℕ) → (x : ℕ) → Bool
 is_free wires p i x = is_input (world p.design) x && not (is_fed wires (endpoint i x))
 
--- the free inputs of parts, i being the number of the first; all registers; all sites
+-- The free inputs of parts, i being the number of the first; all registers; all sites.
 abbrev pub input_ports : List Wire → (i : ℕ) → List Part → List Shown
 input_ports wires i [] = []
 input_ports wires i (p ∷ ps) =
-    ports_in p (pairs_of (is_free wires p i) kind.Input p.design 0 (world p.design).entities) ++ input_ports wires (suc i) ps
+    ports_in p (pairs_of (is_free wires p i) kind.Input p.design 0 (world p.design).entities)
+    ++ input_ports wires (suc i) ps
 
 -- The ports of all parts' registers.
 abbrev pub register_ports : List Part → List Shown
 register_ports [] = []
 register_ports (p ∷ ps) =
-    ports_in p (pairs_of (is_register (world p.design)) kind.Register p.design 0 (world p.design).entities) ++ register_ports ps
+    ports_in p (pairs_of (is_register (world p.design)) kind.Register p.design 0 (world p.design).entities)
+    ++ register_ports ps
 
 -- The ports of all parts' refusals.
 abbrev pub refusal_ports : List Part → List Shown
 refusal_ports [] = []
 refusal_ports (p ∷ ps) = ports_in p (site_ports 1 p.sites) ++ refusal_ports ps
 
--- x is an input of part i that a wire feeds
+-- `x` is an input of part i that a wire feeds.
 abbrev pub is_fed_input : List Wire → Part → (i : ℕ) → (x : ℕ) → Bool
 is_fed_input wires p i x = is_input (world p.design) x && is_fed wires (endpoint i x)
 
--- the wires that stand for inputs that are fed; i is the number of the first part
+-- The wires that stand for inputs that are fed; i is the number of the first part.
 abbrev pub fed_inputs : List Wire → (i : ℕ) → List Part → List Shown
 fed_inputs wires i [] = []
 fed_inputs wires i (p ∷ ps) =
-    ports_in p (pairs_of (is_fed_input wires p i) kind.Wire p.design 0 (world p.design).entities) ++ fed_inputs wires (suc i) ps
+    ports_in p (pairs_of (is_fed_input wires p i) kind.Wire p.design 0 (world p.design).entities)
+    ++ fed_inputs wires (suc i) ps
 
--- all free inputs, then all registers, then all sites, parts in order
+-- All free inputs, then all registers, then all sites, parts in order.
 abbrev pub linked_ports : NamedSystem → List Shown
 linked_ports s = input_ports s.wires 0 s.parts ++ register_ports s.parts ++ refusal_ports s.parts
 
--- an interface name of a part
+-- An interface name of a part.
 pub record IsPartName (s : NamedSystem) (x : Name) : Type 0 where
   pub part : ℕ
   pub is_part : part < length s.parts

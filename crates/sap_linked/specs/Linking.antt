@@ -21,24 +21,30 @@ pub record IsNetOf (o : Order) (p : Part) (n : Net) : Type 0 where
   pub stands : NetStandsFor p.design (width_of o) p.sites n
   pub starts : NetStartsAs p.design p.sites n
 
--- The number and the code that come out of a wire, where the register has the number n and the code t: these; through a level the number where
--- t is the code of a level at or below that one, else 0, and the code of that level.
+-- The number and the code that come out of a wire, where the register has the number n and the code t: these; through a
+-- level the number where t is the code of a level at or below that one, else 0, and the code of that level.
 abbrev pub through_level : Order → Option ℕ → (n t : ℕ) → ℕ × ℕ
 through_level o None n t = (n, t)
 through_level o (Some l) n t = let c = code_of o l in (if bit_or t c == c then n else 0, c)
 
 -- The input to which the wire leads has what comes out of the wire.
 pub record Carries (s : NamedSystem) (v : Valuation) (w : Wire) : Type 0 where
-  pub value : v.value (value_at s w.to) ≡ (through_level s.order w.level (v.value (value_at s w.from)) (v.value (tag_at s w.from))).0
-  pub tag : v.value (tag_at s w.to) ≡ (through_level s.order w.level (v.value (value_at s w.from)) (v.value (tag_at s w.from))).1
+  pub value : v.value (value_at s w.to) ≡ (through_level s.order w.level (v.value (value_at s w.from))
+      (v.value (tag_at s w.from))).0
+  pub tag : v.value (tag_at s w.to) ≡ (through_level s.order w.level (v.value (value_at s w.from))
+      (v.value (tag_at s w.from))).1
 
--- the value and the tag of each of some inputs, in order
+-- The value and the tag of each of some inputs, in order.
 abbrev pub inputs_for : NamedSystem → List Endpoint → List Input
 inputs_for s [] = []
 inputs_for s (e ∷ es) =
-    record { name = value_at s e; width = width_at (system_of s) e } ∷ record { name = tag_at s e; width = width_of s.order } ∷ inputs_for s es
+    record { name = value_at s e; width = width_at (system_of s) e } ∷ record {
+      name = tag_at s e;
+      width = width_of s.order;
+    } ∷ inputs_for s es
 
--- `nets` has the netlist of each part, and `named` the name in the whole of each of its names, both by the part's number.
+-- `nets` has the netlist of each part, and `named` the name in the whole of each of its names, both by the part's
+-- number.
 pub record LinksParts (s : NamedSystem) (nets : ℕ → Net) (named : ℕ → Name → Name) (whole : Net) : Type 0 where
   pub netlist : IsNetlist whole
   pub parts : (i : ℕ) → i < length s.parts → IsPart (named i) (nets i) whole

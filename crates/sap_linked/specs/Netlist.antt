@@ -1,4 +1,5 @@
--- The netlist of a system: the netlists of all parts side by side, each name behind its part's, and in front of them the wires that feed.
+-- The netlist of a system: the netlists of all parts side by side, each name behind its part's, and in front of them
+-- the wires that feed.
 use Rattle.std.specs.Prelude.{ℕ, suc, not, List, [], ◌∷◌, ◌++◌, length, take, map, filter, Option, Some, None, codes}
 use Rattle.sap_bits.specs.declared.Op2.TheVariants.{Or, Eq}
 use Rattle.sap_maps.specs.Maps.{Name}
@@ -22,7 +23,8 @@ use Rattle.sap_linked.specs.Parts.{Part, NamedSystem, part_at, system_of, in_par
 use Rattle.sap_linked.specs.Linking.{inputs_for}
 use Rattle.sap_linked.specs.Interface.{fed_inputs, linked_ports}
 
--- For an input that is fed through a level: the join of the register's code with that of the level, and whether that is the code of the level.
+-- For an input that is fed through a level: the join of the register's code with that of the level, and whether that is
+-- the code of the level.
 abbrev pub joined_at : NamedSystem → Endpoint → Name
 joined_at s e = let p = part_at s e.part in in_part p.name (codes "j_" ++ name p.design e.entity)
 
@@ -34,7 +36,7 @@ below_at s e = let p = part_at s e.part in in_part p.name (codes "b_" ++ name p.
 abbrev pub assign : Name → (width : ℕ) → Right → Wire
 assign x u right = record { name = x; width = u; right = right }
 
--- what feeds the input to which a wire leads, through no level or one
+-- What feeds the input to which a wire leads, through no level or one.
 abbrev pub feeds_through : NamedSystem → SystemWire → Option ℕ → List Wire
 feeds_through s w None =
     assign (value_at s w.to) (width_at (system_of s) w.to) (Copy (Named (value_at s w.from)))
@@ -55,12 +57,14 @@ abbrev pub feeds : NamedSystem → List SystemWire → List Wire
 feeds s [] = []
 feeds s (w ∷ ws) = feeds_through s w w.level ++ feeds s ws
 
--- what each part's netlist has, behind the part's name; i is the number of the first
-abbrev pub copies_of : {X : Type 0} → (items : ℕ → List X) → (copy : (Name → Name) → X → X) → (i : ℕ) → List Part → List X
+-- What each part's netlist has, behind the part's name; i is the number of the first.
+abbrev pub copies_of : {X : Type 0} → (items : ℕ → List X) → (copy : (Name → Name) → X → X) → (i : ℕ)
+    → List Part → List X
 copies_of items copy i [] = []
 copies_of items copy i (p ∷ ps) = map (copy (in_part p.name)) (items i) ++ copies_of items copy (suc i) ps
 
--- What feeds inputs is shown too, behind the ports, so that it keeps its names when the netlist is made small; `without_fed` takes it off.
+-- What feeds inputs is shown too, behind the ports, so that it keeps its names when the netlist is made small;
+-- `without_fed` takes it off.
 abbrev pub held_ports : NamedSystem → List Shown
 held_ports s = linked_ports s ++ fed_inputs s.wires 0 s.parts
 
@@ -68,14 +72,15 @@ held_ports s = linked_ports s ++ fed_inputs s.wires 0 s.parts
 abbrev pub shown_names : NamedSystem → List Name
 shown_names s = map (λ (port : Shown). port.0) (held_ports s)
 
--- the names of all wires, registers and memories
+-- The names of all wires, registers and memories.
 abbrev pub inner_names : NamedSystem → (nets : ℕ → Net) → List Name
 inner_names s nets =
     map (λ (w : Wire). w.name) (feeds s s.wires ++ copies_of (λ i. (nets i).wires) copy_wire 0 s.parts)
     ++ map (λ (r : Register). r.name) (copies_of (λ i. (nets i).registers) copy_register 0 s.parts)
     ++ map (λ (m : Memory). m.name) (copies_of (λ i. (nets i).memories) copy_memory 0 s.parts)
 
--- Wires that feed stand first: they read nothing but registers. Names and registers that ports show stand in front of the others.
+-- Wires that feed stand first: they read nothing but registers. Names and registers that ports show stand in front of
+-- the others.
 abbrev pub linked_net : NamedSystem → (nets : ℕ → Net) → Net
 linked_net s nets =
     let wires = feeds s s.wires ++ copies_of (λ i. (nets i).wires) copy_wire 0 s.parts in
@@ -95,7 +100,7 @@ linked_net s nets =
       memories = memories;
     }
 
--- the netlist with the ports of the system's module alone
+-- The netlist with the ports of the system's module alone.
 abbrev pub without_fed : NamedSystem → Net → Net
 without_fed s n =
     record {

@@ -17,13 +17,13 @@ pub record Part : Type 0 where
   pub design : Named
   pub sites : ℕ
 
--- named parts over one order of levels, and the wires between them
+-- Named parts over one order of levels, and the wires between them.
 pub record NamedSystem : Type 0 where
   pub order : Order
   pub parts : List Part
   pub wires : List Wire
 
--- what a number past the last part stands for
+-- What a number past the last part stands for.
 abbrev pub no_part : Order → Part
 no_part o = record { name = []; design = record { program = no_program o; names = []; code = code_of o }; sites = 0 }
 
@@ -31,15 +31,16 @@ no_part o = record { name = []; design = record { program = no_program o; names 
 abbrev pub part_at : NamedSystem → ℕ → Part
 part_at s i = get_or s.parts i (no_part s.order)
 
--- the system of programs behind the names
+-- The system of programs behind the names.
 abbrev pub system_of : NamedSystem → System
 system_of s = record { order = s.order; parts = map (λ (p : Part). p.design.program) s.parts; wires = s.wires }
 
--- A name of a part as the module of the system has it: `v_x` of part P is `v_P_x`, and so are `t_P_x`, `s_P_0`, `c_P_1` and `l_P_1`.
+-- A name of a part as the module of the system has it: `v_x` of part P is `v_P_x`, and so are `t_P_x`, `s_P_0`, `c_P_1`
+-- and `l_P_1`.
 abbrev pub in_part : (part : Name) → Name → Name
 in_part part x = take 2 x ++ (part ++ (codes "_" ++ drop 2 x))
 
--- the value and the tag of an entity of a part, in the module of the system
+-- The value and the tag of an entity of a part, in the module of the system.
 abbrev pub value_at : NamedSystem → Endpoint → Name
 value_at s e = let p = part_at s e.part in in_part p.name (value_name (name p.design e.entity))
 
@@ -47,11 +48,11 @@ value_at s e = let p = part_at s e.part in in_part p.name (value_name (name p.de
 abbrev pub tag_at : NamedSystem → Endpoint → Name
 tag_at s e = let p = part_at s e.part in in_part p.name (tag_name (name p.design e.entity))
 
--- the name of a part has no `_`
+-- The name of a part has no `_`.
 abbrev pub has_no_underscore : Name → Bool
 has_no_underscore part = list_all (λ b. not (b == byte "_")) part
 
--- the names of parts are made of letters and digits, without `_`, and differ
+-- The names of parts are made of letters and digits, without `_`, and differ.
 pub record NamesFit (s : NamedSystem) : Type 0 where
   pub inner : (i : ℕ) → i < length s.parts → list_all is_inner (part_at s i).name ≡ true
   pub whole : (i : ℕ) → i < length s.parts → has_no_underscore (part_at s i).name ≡ true

@@ -16,13 +16,15 @@ use Rattle.sap_linked_agree.specs.Agree.{SystemRunsAgree, SystemRunsLookAlike, S
 -- The composite runs of a system of well-formed designs, whose wires break no rule, agree where their streams do.
 abbrev pub SystemsAgree : Type 0
 SystemsAgree =
-    (ls : Levels) (designs : List NamedDesign) (wires : List Wire) → Laws (order_of ls) → WellLinked ls (trees designs) wires
+    (ls : Levels) (designs : List NamedDesign) (wires : List Wire) → Laws (order_of ls)
+    → WellLinked ls (trees designs) wires
     → RunsOfStreamsAgree (system_of (named_system ls designs wires))
 
 -- What stands for a system of well-formed designs has runs that agree, and look alike, where their streams agree.
 abbrev pub ModulesAgree : Type 0
 ModulesAgree =
-    (ls : Levels) (designs : List NamedDesign) (wires : List Wire) → Laws (order_of ls) → Codes (order_of ls) → WellLinked ls (trees designs) wires
+    (ls : Levels) (designs : List NamedDesign) (wires : List Wire) → Laws (order_of ls)
+    → Codes (order_of ls) → WellLinked ls (trees designs) wires
     → let s = named_system ls designs wires in (n : Net) → RunsStand s n → SystemRunsAgree s n × SystemRunsLookAlike s n
 
 -- And one run on each stream.

@@ -12,17 +12,20 @@ use Rattle.sap_linked.specs.Designs.{NamedDesign}
 use Rattle.sap_linker.specs.Given.{HasNetlist, surroundings}
 use Rattle.sap_linker.specs.declared.parts.AddedPart.{AddedPart}
 
--- a system as its file lists it, over the levels of a lattice, and what was added for its first parts
+-- A system as its file lists it, over the levels of a lattice, and what was added for its first parts.
 pub record Adding : Type 0 where
   pub system : Listing
   pub levels : Levels
   pub parts : List AddedPart
 
--- each design that was added, under the name of its part, with its netlist
+-- Each design that was added, under the name of its part, with its netlist.
 abbrev pub under_names : List Part → List AddedPart → List (NamedDesign × Net)
 under_names [] added = []
 under_names (l ∷ ls) [] = []
-under_names (l ∷ ls) (p ∷ ps) = (record { name = l.name; design = tree_in p.checked.now }, p.netlist.now) ∷ under_names ls ps
+under_names (l ∷ ls) (p ∷ ps) = (
+  record { name = l.name; design = tree_in p.checked.now },
+  p.netlist.now,
+) ∷ under_names ls ps
 
 -- The designs that have been added, under their names.
 abbrev pub added_designs : Adding → List NamedDesign
@@ -32,15 +35,15 @@ added_designs a = map (λ (p : NamedDesign × Net). p.0) (under_names a.system.p
 abbrev pub added_nets : Adding → List Net
 added_nets a = map (λ (p : NamedDesign × Net). p.1) (under_names a.system.parts a.parts)
 
--- what the texts of the system's wires are held against
+-- What the texts of the system's wires are held against.
 abbrev pub surroundings_of : Adding → Surroundings
 surroundings_of a = surroundings a.levels (added_designs a)
 
--- their designs are well formed over these levels, and each netlist stands for its design and starts as that does
+-- Their designs are well formed over these levels, and each netlist stands for its design and starts as that does.
 abbrev pub AreAddedOver : Levels → List AddedPart → Type 0
 AreAddedOver ls parts = AllByRecursion (λ (p : AddedPart). HasNetlist ls (tree_in p.checked.now) p.netlist.now) parts
 
--- one part more: this design and this netlist
+-- One part more: this design and this netlist.
 pub record AddsPart (old new : Adding) (checked : Checked) (netlist : Net) : Type 0 where
   pub part : AddedPart
   pub design : part.checked.now ≡ checked

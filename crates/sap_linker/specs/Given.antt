@@ -29,17 +29,21 @@ design_names ds = map (λ (d : NamedDesign). d.name) ds
 abbrev pub named_net : LinkedPart → NamedNet
 named_net p = record { name = p.name.now; net = p.netlist.now }
 
--- a part's design under its name, and its netlist
+-- A part's design under its name, and its netlist.
 abbrev pub design_with_net : LinkedPart → NamedDesign × Net
 design_with_net p = (named_design p, p.netlist.now)
 
--- a part's name, and what its design declares
+-- A part's name, and what its design declares.
 abbrev pub declares : LinkedPart → NamedPart
 declares p = record { name = p.name.now; entities = entities_of (tree_in p.checked.now) }
 
--- what the texts of wires between designs are held against
+-- What the texts of wires between designs are held against.
 abbrev pub surroundings : Levels → List NamedDesign → Surroundings
-surroundings ls ds = record { parts = map (λ (d : NamedDesign). record { name = d.name; entities = entities_of d.design }) ds; levels = ls.names }
+surroundings ls ds = record {
+  parts = map
+      (λ (d : NamedDesign). record { name = d.name; entities = entities_of d.design }) ds;
+  levels = ls.names;
+}
 
 -- A design is well formed over these levels, and a netlist stands for it and starts as it does.
 pub record HasNetlist (ls : Levels) (d : DesignTree) (n : Net) : Type 0 where
@@ -54,7 +58,7 @@ IsOver ls p = HasNetlist ls (tree_in p.checked.now) p.netlist.now
 abbrev pub AreOver : Levels → List LinkedPart → Type 0
 AreOver ls parts = AllByRecursion (IsOver ls) parts
 
--- the netlists of parts by number, and what a number past the last stands for
+-- The netlists of parts by number, and what a number past the last stands for.
 abbrev pub no_net : Net
 no_net = record { module_name = []; names = []; ports = []; inputs = []; wires = []; registers = []; memories = [] }
 
@@ -66,7 +70,7 @@ nets_of parts = map (λ (p : LinkedPart). p.netlist.now) parts
 abbrev pub net_at : List LinkedPart → ℕ → Net
 net_at parts i = get_or (nets_of parts) i no_net
 
--- the part is there, and so is its entity
+-- The part is there, and so is its entity.
 pub record IsThere (ds : List NamedDesign) (e : Endpoint) : Type 0 where
   pub design : NamedDesign
   pub is_design : slice_get ds e.part ≡ Some design

@@ -23,19 +23,23 @@ use Rattle.sap_linker.specs.Modules.{IsModuleOfSystem}
 abbrev pub names_of : NamedSystem → List (List ℕ)
 names_of s = map (λ (p : SystemPart). p.name) s.parts
 
--- Parts with names that they may have, by the rules on names of parts, have names that stay apart in the module of the system; ..
+-- Parts with names that they may have, by the rules on names of parts, have names that stay apart in the module of the
+-- system.
 abbrev pub NamedPartsFit : Type 0
 NamedPartsFit = (u : Surroundings) (s : NamedSystem) → PartsNamed u → names_of s ≡ names_in u → NamesFit s
 
--- .. and so have those with the names that a system file gives them.
+-- Parts with the names that a system file gives them have names that stay apart in the module of the system.
 abbrev pub FileNamesFit : Type 0
 FileNamesFit = (parts : List Part) (s : NamedSystem) → KeepsParts parts → names_of s ≡ part_names parts → NamesFit s
 
--- Where the netlist of a system is made small, and no wire of what comes of it is needless, that is the module of the system, without the ports of what feeds
--- inputs.
+-- Where the netlist of a system is made small, and no wire of what comes of it is needless, that is the module of the
+-- system, without the ports of what feeds inputs.
 abbrev pub SmallNetsAreModules : Type 0
 SmallNetsAreModules =
-    (ls : Levels) (designs : List NamedDesign) (wires : List Wire) → Laws (order_of ls) → Codes (order_of ls) → WellLinked ls (trees designs) wires
+    (ls : Levels) (designs : List NamedDesign) (wires : List Wire) → Laws (order_of ls)
+    → Codes (order_of ls) → WellLinked ls (trees designs) wires
     → let s = named_system ls designs wires in
-    NamesFit s → (nets : ℕ → Net) (small : Net) → ((i : ℕ) (d : NamedDesign) → slice_get designs i ≡ Some d → IsNetOfDesign ls d.design (nets i))
-    → IsSmall (linked_net s nets) small → IsTidy (port_names small) small → IsModuleOfSystem ls designs wires (without_fed s small)
+    NamesFit s → (nets : ℕ → Net) (small : Net)
+    → ((i : ℕ) (d : NamedDesign) → slice_get designs i ≡ Some d → IsNetOfDesign ls d.design (nets i))
+    → IsSmall (linked_net s nets) small → IsTidy (port_names small) small
+    → IsModuleOfSystem ls designs wires (without_fed s small)

@@ -16,7 +16,7 @@ pub record IsLinked (ls : Levels) (ds : List NamedDesign) (texts : List WireText
   pub of_texts : AreWiresOf (surroundings ls ds) texts wires
   pub is_module : IsModuleOfSystem ls ds wires n
 
--- the netlist with so many of its ports
+-- The netlist with so many of its ports.
 abbrev pub with_ports : (count : ℕ) → Net → Net
 with_ports count n =
     record {
@@ -29,7 +29,7 @@ with_ports count n =
       memories = n.memories;
     }
 
--- how many inputs the netlists of some parts have
+-- How many inputs the netlists of some parts have.
 abbrev pub inputs_within : List LinkedPart → ℕ
 inputs_within [] = 0
 inputs_within (p ∷ ps) = length p.netlist.now.inputs + inputs_within ps

@@ -12,9 +12,10 @@ use Rattle.sap_linked.specs.Designs.{NamedDesign, trees, named_system}
 use Rattle.sap_linked_small.specs.Laws.{IsNetOfSystem}
 use Rattle.sap_linked_agree.specs.Agree.{SystemRunsAgree, SystemRunsLookAlike, SystemHasOneRun}
 
--- The designs are well formed and the wires break no rule. The composite runs of streams that agree at a level agree there. The netlist stands for the composite
--- run and starts as the system does; it has one run on each stream that fits; and on two that agree at a level its runs agree there in every cycle, part by
--- part, in states and refusals and in plain numbers. No wire of it is needless, ports and the wires that stand for fed inputs aside, which are copies.
+-- The designs are well formed and the wires break no rule. The composite runs of streams that agree at a level agree
+-- there. The netlist stands for the composite run and starts as the system does; it has one run on each stream that
+-- fits; and on two that agree at a level its runs agree there in every cycle, part by part, in states and refusals and
+-- in plain numbers. No wire of it is needless, ports and the wires that stand for fed inputs aside, which are copies.
 pub record IsModuleOfSystem (ls : Levels) (designs : List NamedDesign) (wires : List Wire) (n : Net) : Type 0 where
   pub linked : WellLinked ls (trees designs) wires
   pub composites : RunsOfStreamsAgree (system_of (named_system ls designs wires))

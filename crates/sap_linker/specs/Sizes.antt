@@ -7,7 +7,7 @@ use Rattle.sap_trim.specs.Few.{calculated}
 use Rattle.sap_trim.specs.Names.{shown_wires}
 use Rattle.sap_linked.specs.Designs.{NamedDesign}
 
--- what a part's netlist adds: its items, and one for each of its wires that is a port and no copy
+-- What a part's netlist adds: its items, and one for each of its wires that is a port and no copy.
 abbrev pub net_items : Net → ℕ
 net_items n = items n + length (calculated (shown_wires n))
 
@@ -15,7 +15,7 @@ net_items n = items n + length (calculated (shown_wires n))
 abbrev pub HasFewItems : (parts : List Net) → (wires : ℕ) → Net → Type 0
 HasFewItems parts wires n = items n ≤ sum_by net_items parts + 5 * wires
 
--- the sum of the bounds of the parts' designs
+-- The sum of the bounds of the parts' designs.
 abbrev pub most_items_of : Levels → List NamedDesign → ℕ
 most_items_of ls designs = sum_by (λ (d : NamedDesign). most_items ls d.design) designs
 

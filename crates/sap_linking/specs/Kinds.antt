@@ -12,7 +12,7 @@ use Rattle.sap_files.specs.Ending.{part_refused, system_refused}
 use Rattle.sap_files.specs.Contents.{IsWellFormedText}
 use Rattle.sap_files.specs.Kinds.{Kind}
 
--- system files
+-- System files.
 abbrev pub system_file : Kind
 system_file = record {
   most = None;
@@ -21,7 +21,7 @@ system_file = record {
   Refused = λ bytes why. (fault : SysFault) × (why ≡ system_refused fault) × FirstFault bytes fault;
 }
 
--- the design file of the part of this name, which a refusal tells
+-- The design file of the part of this name, which a refusal tells.
 abbrev pub part_file : Levels → (part : List ℕ) → Kind
 part_file ls part = record {
   most = Some most_bytes;

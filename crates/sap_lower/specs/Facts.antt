@@ -16,6 +16,7 @@ abbrev pub right_if_named : Name → Option Wire → Option Right
 right_if_named n None = None
 right_if_named n (Some w) = if bytes_eq w.name n then Some w.right else None
 
+-- The right side of the wire of a name, by its number.
 abbrev pub right_numbered : List Wire → Name → Option ℕ → Option Right
 right_numbered ws n None = None
 right_numbered ws n (Some k) = right_if_named n (slice_get ws k)
@@ -29,7 +30,8 @@ abbrev pub is_zero : Operand → Bool
 is_zero (Named x) = false
 is_zero (Constant w n) = n == 0
 
--- What the right side of a test tells where the test isn't 0: the operands of a conjunction aren't 0, and what it compares has the constant's number.
+-- What the right side of a test tells where the test isn't 0: the operands of a conjunction aren't 0, and what it
+-- compares has the constant's number.
 abbrev pub told_by_test : (of : Name → List Fact) → Option Right → List Fact
 told_by_test of (Some (Two And (Named a) (Named b))) = of a ++ of b
 told_by_test of (Some (Two Eq (Named a) (Constant w x))) = Equals a x ∷ []
@@ -40,10 +42,12 @@ abbrev pub test_facts : (most : ℕ) → List Wire → Name → List Fact
 test_facts zero ws n = []
 test_facts (suc k) ws n = IsSet n ∷ told_by_test (test_facts k ws) (right_of ws n)
 
+-- The facts of an operand.
 abbrev pub of_operand : (Name → List Fact) → Operand → List Fact
 of_operand of (Named x) = of x
 of_operand of (Constant w x) = []
 
+-- How many tests are looked through.
 abbrev pub tests : ℕ
 tests = 3
 
@@ -59,8 +63,10 @@ gate_facts zero ws o = []
 gate_facts (suc k) ws (Named n) = told_by_gate ws (gate_facts k ws) n (right_of ws n)
 gate_facts (suc k) ws (Constant w x) = []
 
+-- How many gates around a gate are looked at.
 abbrev pub gates : ℕ
 gates = 16
 
+-- What is known where a gate is 1.
 abbrev pub facts_of : List Wire → (gate : Operand) → List Fact
 facts_of ws o = gate_facts gates ws o

@@ -1,5 +1,5 @@
--- The design of the machine: two users share a pipeline, which the kernel zeroes and retags at each slice. The tree is written out, not
--- read, so all its places are one.
+-- The design of the machine: two users share a pipeline, which the kernel zeroes and retags at each slice. The tree is
+-- written out, not read, so all its places are one.
 use Rattle.std.specs.Prelude.{ℕ, List, [], ◌∷◌, Some, None, codes}
 use Rattle.sap_tree.specs.Making.{named, numeral, number, enforced, block, states}
 use Rattle.sap_tree.specs.Making as make
@@ -12,7 +12,7 @@ use Rattle.sap_tree.specs.declared.syntax.Decl.{Decl}
 use Rattle.sap_tree.specs.declared.syntax.Decl.TheVariants.{Input, Register, Memory}
 use Rattle.sap_tree.specs.declared.version.Version.TheVariants.{One}
 
--- input NAME : WIDTH; and so on
+-- Input NAME : WIDTH; and so on.
 abbrev pub input : (name : List ℕ) → (width : ℕ) → Decl
 input name u = Input nowhere (named name) (numeral u)
 
@@ -46,10 +46,12 @@ declarations =
     input (codes "wa") 12 ∷ input (codes "wb") 12
     ∷ register_from (codes "pc") 4 low 1 ∷ register (codes "acc") 8 low ∷ register (codes "ir") 12 low
     ∷ register (codes "cnt") 3 low ∷ register_from (codes "who") 1 low 1 ∷ register (codes "n") 4 low
-    ∷ register (codes "apc") 4 a ∷ register (codes "aacc") 8 a ∷ register (codes "bpc") 4 b ∷ register (codes "bacc") 8 b
-    ∷ memory (codes "pa") 12 16 a ∷ memory (codes "pb") 12 16 b ∷ memory (codes "da") 8 16 a ∷ memory (codes "db") 8 16 b ∷ []
+    ∷ register (codes "apc") 4 a ∷ register (codes "aacc") 8 a ∷ register (codes "bpc") 4 b
+    ∷ register (codes "bacc") 8 b
+    ∷ memory (codes "pa") 12 16 a ∷ memory (codes "pb") 12 16 b ∷ memory (codes "da") 8 16 a
+    ∷ memory (codes "db") 8 16 b ∷ []
 
--- expressions
+-- Expressions.
 abbrev pub read : List ℕ → Expression
 read name = make.read name
 
@@ -85,7 +87,7 @@ ir = read (codes "ir")
 abbrev pub turn_of_a : Expression
 turn_of_a = is (read (codes "who")) 0
 
--- ir[11:8], ir[7:0] and ir[3:0]
+-- Ir[11:8], ir[7:0] and ir[3:0].
 abbrev pub op : Expression
 op = slice no_spot ir 11 8
 
@@ -97,7 +99,7 @@ byte = slice no_spot ir 7 0
 abbrev pub place : Expression
 place = slice no_spot ir 3 0
 
--- commands: x := e, m[i] := e, and so on
+-- An assignment to a register.
 abbrev pub set : List ℕ → Expression → Command
 set name e = lone (tree.assign (named name) e)
 
@@ -129,7 +131,7 @@ if_or e cs ds = if_else nowhere e (block cs) (with_else (block ds))
 abbrev pub state : List ℕ → List Command → (children : List StateTree) → StateTree
 state name body children = state_node nowhere (named name) (enforced low) (block body) (states children)
 
--- a word for each user, in each of sixteen cycles
+-- A word for each user, in each of sixteen cycles.
 abbrev pub boot : StateTree
 boot = state (codes "Boot") (
     store (codes "pa") (read (codes "n")) (read (codes "wa"))
@@ -138,7 +140,7 @@ boot = state (codes "Boot") (
     ∷ if_or (is (read (codes "n")) 0) (goto (codes "Kernel") ∷ []) (goto (codes "Boot") ∷ [])
     ∷ []) []
 
--- it keeps what the pipeline has of one user, zeroes and retags it, and takes what is kept of the other
+-- It keeps what the pipeline has of one user, zeroes and retags it, and takes what is kept of the other.
 abbrev pub kernel : StateTree
 kernel = state (codes "Kernel") (
     if_or turn_of_a
@@ -155,22 +157,24 @@ kernel = state (codes "Kernel") (
     ∷ goto (codes "Run")
     ∷ []) []
 
--- in a turn of a the one, else the other
+-- In a turn of a the one, else the other.
 abbrev pub of_turn : (of_a of_b : Command) → Command
 of_turn x y = if_or turn_of_a (x ∷ []) (y ∷ [])
 
--- a row of the instruction table
+-- A row of the instruction table.
 abbrev pub on : (k : ℕ) → Command → Command
 on k c = when (is op k) (c ∷ [])
 
--- the instruction that was fetched before, and the next one fetched
+-- The instruction that was fetched before, and the next one fetched.
 abbrev pub user : StateTree
 user = state (codes "User") (
     on 1 (set (codes "acc") byte)
     ∷ on 2 (of_turn (set (codes "acc") (cell (codes "da") place)) (set (codes "acc") (cell (codes "db") place)))
     ∷ on 3 (of_turn (store (codes "da") place acc) (store (codes "db") place acc))
-    ∷ on 4 (of_turn (set (codes "acc") (plus acc (cell (codes "da") place))) (set (codes "acc") (plus acc (cell (codes "db") place))))
-    ∷ on 5 (of_turn (set (codes "acc") (minus acc (cell (codes "da") place))) (set (codes "acc") (minus acc (cell (codes "db") place))))
+    ∷ on 4 (of_turn (set (codes "acc") (plus acc (cell (codes "da") place)))
+    (set (codes "acc") (plus acc (cell (codes "db") place))))
+    ∷ on 5 (of_turn (set (codes "acc") (minus acc (cell (codes "da") place)))
+    (set (codes "acc") (minus acc (cell (codes "db") place))))
     ∷ on 6 (set (codes "pc") place)
     ∷ on 7 (when (is acc 0) (set (codes "pc") place ∷ []))
     ∷ on 8 (set (codes "pc") (minus pc (number 1)))
@@ -179,7 +183,7 @@ user = state (codes "User") (
     ∷ goto (codes "User")
     ∷ []) []
 
--- five cycles of a slice
+-- Five cycles of a slice.
 abbrev pub run : StateTree
 run = state (codes "Run") (
     if_or (is (read (codes "cnt")) 0)

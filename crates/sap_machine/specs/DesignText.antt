@@ -5,7 +5,7 @@ use Rattle.sap_tree.specs.Bare.{bare}
 use Rattle.sap_tree.specs.Syntax.{DesignTree}
 use Rattle.sap_parse.specs.Text.{IsText}
 
--- the text is that of a design, the same as this one, places aside
+-- The text is that of a design, the same as this one, places aside.
 abbrev pub IsTextOf : List ℕ → DesignTree → Type 0
 IsTextOf text design = (tree : DesignTree) × IsText text tree × (bare tree ≡ bare design)
 

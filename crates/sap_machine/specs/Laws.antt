@@ -13,7 +13,7 @@ use Rattle.sap_machine.specs.Machine.{entity, part}
 use Rattle.sap_machine.specs.Table.{UserState, begun}
 use Rattle.sap_machine.specs.Slices.{after_slices, holder, other, sliced}
 
--- what an input gets in the cycle behind i cycles
+-- What an input gets in the cycle behind i cycles.
 abbrev pub given_behind : World → List (List Tagged) → (input i : ℕ) → Tagged
 given_behind w stream x i = given w (get_or stream i []) x
 
@@ -23,15 +23,15 @@ word w u stream i =
     let t = given_behind w stream (part u).input i in
     if nat_lt i 16 && w.order.le t.level (part u).level then t.number else 0
 
--- the first state, and what each cycle of a run leads to
+-- The first state, and what each cycle of a run leads to.
 abbrev pub states : Program → List (List Tagged) → List After
 states p stream = stay (first p.world) ∷ labelled_run p stream
 
--- what a run has come to behind so many cycles
+-- What a run has come to behind so many cycles.
 abbrev pub after_cycles : Program → (cycles : ℕ) → List (List Tagged) → After
 after_cycles p c stream = get_or (states p stream) c (stay (first p.world))
 
--- what the machine has of a user, in the registers in which the kernel keeps it and in the memory of its cells
+-- What the machine has of a user, in the registers in which the kernel keeps it and in the memory of its cells.
 pub record Keeps (u : User) (state : UserState) (s : Store) : Type 0 where
   pub pc : number (own (part u).pc) s ≡ state.pc
   pub acc : number (own (part u).acc) s ≡ state.acc
@@ -42,14 +42,16 @@ abbrev pub RunsTheTable : Program → Type 0
 RunsTheTable p = (stream : List (List Tagged)) → StreamFits p.world stream → (n : ℕ) → 17 + 6 * n ≤ length stream
     → (u : User) → Keeps u (after_slices u (word p.world u stream) n) (after_cycles p (17 + 6 * n) stream).store
 
--- a word that isn't at or below its user's level is refused, at that level
+-- A word that isn't at or below its user's level is refused, at that level.
 abbrev pub refused_word : Order → User → Tagged → List Refusal
-refused_word o u t = if o.le t.level (part u).level then [] else record { site = (part u).site; level = (part u).level } ∷ []
+refused_word o u t = if o.le t.level (part u).level then []
+    else record { site = (part u).site; level = (part u).level } ∷ []
 
--- what is refused behind c cycles: in the first sixteen cycles these words of both users, and nothing else ever
+-- What is refused behind c cycles: in the first sixteen cycles these words of both users, and nothing else ever.
 abbrev pub refused_words : World → List (List Tagged) → (c : ℕ) → List Refusal
 refused_words w stream c =
-    if nat_lt c 16 then refused_word w.order A (given_behind w stream (part A).input c) ++ refused_word w.order B (given_behind w stream (part B).input c) else []
+    if nat_lt c 16 then refused_word w.order A (given_behind w stream (part A).input c)
+    ++ refused_word w.order B (given_behind w stream (part B).input c) else []
 
 -- Each cycle refuses exactly these words.
 abbrev pub RefusesTheWords : Program → Type 0
@@ -60,7 +62,7 @@ RefusesTheWords p = (stream : List (List Tagged)) → StreamFits p.world stream 
 abbrev pub SameWords : World → User → (s t : List (List Tagged)) → Type 0
 SameWords w u s t = (i : ℕ) → i < 16 → word w u s i ≡ word w u t i
 
--- the same is kept of a user
+-- The same is kept of a user.
 pub record KeptAlike (u : User) (s t : Store) : Type 0 where
   pub pc : number (own (part u).pc) s ≡ number (own (part u).pc) t
   pub acc : number (own (part u).acc) s ≡ number (own (part u).acc) t
@@ -68,7 +70,8 @@ pub record KeptAlike (u : User) (s t : Store) : Type 0 where
 
 -- A user's words alone decide what is kept of it after each slice.
 abbrev pub WordsDecide : Program → Type 0
-WordsDecide p = (s t : List (List Tagged)) → StreamFits p.world s → StreamFits p.world t → (u : User) → SameWords p.world u s t
+WordsDecide p = (s t : List (List Tagged)) → StreamFits p.world s → StreamFits p.world t → (u : User)
+    → SameWords p.world u s t
     → (n : ℕ) → 17 + 6 * n ≤ length s → 17 + 6 * n ≤ length t
     → KeptAlike u (after_cycles p (17 + 6 * n) s).store (after_cycles p (17 + 6 * n) t).store
 
@@ -82,21 +85,26 @@ pub record SamePart (w : World) (u : User) (s t : Store) : Type 0 where
 
 -- Of two streams that agree at a user's level the user's part is the same behind every cycle.
 abbrev pub OthersDontCount : Program → Type 0
-OthersDontCount p = (s t : List (List Tagged)) → StreamFits p.world s → StreamFits p.world t → (u : User) → StreamsAgree p.world.order (part u).level s t
+OthersDontCount p = (s t : List (List Tagged)) → StreamFits p.world s → StreamFits p.world t
+    → (u : User) → StreamsAgree p.world.order (part u).level s t
     → (c : ℕ) → c ≤ length s → SamePart p.world u (after_cycles p c s).store (after_cycles p c t).store
 
--- a user gets the same at the same level; and so does the other, or neither of its words is at or below this user's level
+-- A user gets the same at the same level; and so does the other, or neither of its words is at or below this user's
+-- level.
 pub record OthersWordDiffers (w : World) (u : User) (inputs others : List Tagged) : Type 0 where
   pub own : given w inputs (part u).input ≡ given w others (part u).input
   pub hidden : (given w inputs (part (other u)).input ≡ given w others (part (other u)).input)
-      ⊎ (High w.order (part u).level (given w inputs (part (other u)).input).level × High w.order (part u).level (given w others (part (other u)).input).level)
+      ⊎ (High w.order (part u).level (given w inputs (part (other u)).input).level
+      × High w.order (part u).level (given w others (part (other u)).input).level)
 
 -- So a user's part is the same behind every cycle of streams that differ in words of the other alone.
 abbrev pub OthersWordsDontCount : Program → Type 0
-OthersWordsDontCount p = (s t : List (List Tagged)) → StreamFits p.world s → StreamFits p.world t → (u : User) → AllZip (OthersWordDiffers p.world u) s t
+OthersWordsDontCount p = (s t : List (List Tagged)) → StreamFits p.world s → StreamFits p.world t
+    → (u : User) → AllZip (OthersWordDiffers p.world u) s t
     → (c : ℕ) → c ≤ length s → SamePart p.world u (after_cycles p c s).store (after_cycles p c t).store
 
--- the users' states slice by slice: they begin with their words, and a slice is three instructions of its holder
+-- The users' states slice by slice: they begin with their words, and a slice is three instructions of its holder.
 abbrev pub SlicesInTurn : Type 0
 SlicesInTurn = (u : User) (word : ℕ → ℕ)
-    → (after_slices u word 0 ≡ begun word) × ((n : ℕ) → after_slices u word (n + 1) ≡ sliced (holder n) u (after_slices u word n))
+    → (after_slices u word 0 ≡ begun word) × ((n : ℕ)
+    → after_slices u word (n + 1) ≡ sliced (holder n) u (after_slices u word n))

@@ -16,15 +16,16 @@ use Rattle.sap_machine.specs.Design.{machine_design}
 unfoldable pub machine : Program
 machine = program_of diamond machine_design
 
--- a design that is the same as this one, places aside, is well formed, and its program is the machine
+-- A design that is the same as this one, places aside, is well formed, and its program is the machine.
 abbrev pub PlacesDontCount : Type 0
-PlacesDontCount = (tree : DesignTree) → bare tree ≡ bare machine_design → WellFormed diamond tree × (program_of diamond tree ≡ machine)
+PlacesDontCount = (tree : DesignTree) → bare tree ≡ bare machine_design → WellFormed diamond tree
+    × (program_of diamond tree ≡ machine)
 
--- the number of the entity of this name
+-- The number of the entity of this name.
 abbrev pub entity : (name : List ℕ) → ℕ
 entity name = entity_number (entities_of machine_design) name
 
--- the number of the level of this name
+-- The number of the level of this name.
 abbrev pub level : (name : List ℕ) → ℕ
 level name = unwrap_or (level_named level_names name) 0
 

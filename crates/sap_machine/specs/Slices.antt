@@ -4,12 +4,12 @@ use Rattle.sap_machine.specs.declared.user.User.{User}
 use Rattle.sap_machine.specs.declared.user.User.TheVariants.{A, B}
 use Rattle.sap_machine.specs.Table.{UserState, begun, steps}
 
--- the instructions that a user has done after n slices
+-- The instructions that a user has done after n slices.
 abbrev pub instructions : User → (n : ℕ) → ℕ
 instructions A n = 3 * ((n + 1) / 2)
 instructions B n = 3 * (n / 2)
 
--- a user with these words after n slices
+-- A user with these words after n slices.
 unfoldable pub after_slices : User → (word : ℕ → ℕ) → (n : ℕ) → UserState
 after_slices u word n = steps (instructions u n) (begun word)
 
@@ -18,12 +18,12 @@ abbrev pub other : User → User
 other A = B
 other B = A
 
--- the user of the slice behind n others
+-- The user of the slice behind n others.
 abbrev pub holder : (n : ℕ) → User
 holder zero = A
 holder (suc n) = other (holder n)
 
--- what a slice of the holder does to a user
+-- What a slice of the holder does to a user.
 abbrev pub sliced : (holder u : User) → UserState → UserState
 sliced A A s = steps 3 s
 sliced A B s = s

@@ -10,6 +10,6 @@ pub record Valuation : Type 0 where
   pub value : Name → ℕ
   pub cell : Name → ℕ → ℕ
 
--- another number at one name
+-- Another number at one name.
 abbrev pub set_value : Valuation → Name → ℕ → Valuation
 set_value v n x = record { value = λ m. if bytes_eq m n then x else v.value m; cell = v.cell }

@@ -1,7 +1,7 @@
 -- The widths of values, and the depths of memories.
 use Rattle.std.specs.Prelude.{◌≡◌, ℕ, ◌^◌, ◌≤◌}
 
--- a width from 1 to 64
+-- A width from 1 to 64.
 abbrev pub IsWidth : ℕ → Type 0
 IsWidth w = (1 ≤ w) × (w ≤ 64)
 

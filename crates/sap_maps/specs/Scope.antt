@@ -11,6 +11,6 @@ find (e ∷ es) n = if bytes_eq e.0 n then Some e.1 else find es n
 abbrev pub Scope : Type 0
 Scope = List (Name × ℕ)
 
--- equal numbers at all declared names
+-- Equal numbers at all declared names.
 abbrev pub Agree : Scope → Valuation → Valuation → Type 0
 Agree sc v w = (n : Name) (u : ℕ) → find sc n ≡ Some u → v.value n ≡ w.value n

@@ -42,10 +42,11 @@ term_value widths value cells (two op a b) =
     value2 op (term_width widths a) (term_value widths value cells a) (term_value widths value cells b)
 term_value widths value cells (choose c a b) =
     if term_value widths value cells c == 0 then term_value widths value cells b else term_value widths value cells a
-term_value widths value cells (join a b) = joined (term_value widths value cells a) (term_width widths b) (term_value widths value cells b)
+term_value widths value cells (join a b) =
+    joined (term_value widths value cells a) (term_width widths b) (term_value widths value cells b)
 term_value widths value cells (part a hi lo) = slice_of (term_value widths value cells a) hi lo
 
--- P holds of each name that is read, Q of each memory of which a cell is read, with its index
+-- P holds of each name that is read, Q of each memory of which a cell is read, with its index.
 module _ {N : Type 0} (P : N → Type 0) (Q : N → Term N → Type 0) where
   -- P holds of each name that a term reads, and Q of each memory.
   abbrev pub EveryRead : Term N → Type 0
@@ -58,7 +59,7 @@ module _ {N : Type 0} (P : N → Type 0) (Q : N → Term N → Type 0) where
   EveryRead (join a b) = EveryRead a × EveryRead b
   EveryRead (part a hi lo) = EveryRead a
 
--- other names for those that are read
+-- Other names for those that are read.
 abbrev pub map_term : {N M : Type 0} → (N → M) → Term N → Term M
 map_term f (constant w x) = constant w x
 map_term f (read n) = read (f n)
@@ -69,7 +70,7 @@ map_term f (choose c a b) = choose (map_term f c) (map_term f a) (map_term f b)
 map_term f (join a b) = join (map_term f a) (map_term f b)
 map_term f (part a hi lo) = part (map_term f a) hi lo
 
--- the second operand has the first one's width; a shift's count has any
+-- The second operand has the first one's width; a shift's count has any.
 abbrev pub CountFits : Op2 → (w u : ℕ) → Type 0
 CountFits Shl w u = Unit {0}
 CountFits Shr w u = Unit {0}
@@ -81,7 +82,9 @@ TermFits widths (constant w x) = x < 2 ^ w
 TermFits widths (read n) = Unit {0}
 TermFits widths (cell m i) = TermFits widths i
 TermFits widths (one op a) = TermFits widths a
-TermFits widths (two op a b) = TermFits widths a × TermFits widths b × CountFits op (term_width widths a) (term_width widths b)
-TermFits widths (choose c a b) = TermFits widths c × TermFits widths a × TermFits widths b × (term_width widths b ≡ term_width widths a)
+TermFits widths (two op a b) = TermFits widths a × TermFits widths b
+    × CountFits op (term_width widths a) (term_width widths b)
+TermFits widths (choose c a b) = TermFits widths c × TermFits widths a × TermFits widths b
+    × (term_width widths b ≡ term_width widths a)
 TermFits widths (join a b) = TermFits widths a × TermFits widths b
 TermFits widths (part a hi lo) = TermFits widths a × (lo ≤ hi)

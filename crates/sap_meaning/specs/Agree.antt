@@ -33,7 +33,8 @@ SlotsAlike w l z s t = Alike w.order l (number z s ≡ number z t) (level w z s)
 
 -- One part of a dynamic memory looks alike: its level is kept at `whole`, and its content is all its cells.
 abbrev pub PartsAlike : World → ℕ → (cell : ℕ → Slot) → (whole : Slot) → Store → Store → Type 0
-PartsAlike w l cell whole s t = Alike w.order l ((i : ℕ) → number (cell i) s ≡ number (cell i) t) (level w whole s) (level w whole t)
+PartsAlike w l cell whole s t = Alike w.order l ((i : ℕ) → number (cell i) s ≡ number (cell i) t)
+    (level w whole s) (level w whole t)
 
 -- A state on the active path has a tag.
 pub record ActiveState : Type 0 where
@@ -45,7 +46,8 @@ pub record ActiveState : Type 0 where
 -- that is no child's the path ends too.
 abbrev pub path_from : (child tag : ℕ → ℕ) → Group → (n : ℕ) → List ActiveState
 path_from child tag no_node n = []
-path_from child tag (and_node (state_node c b k) g) zero = record { state = c; tag = tag c } ∷ path_from child tag k (child c)
+path_from child tag (and_node (state_node c b k) g) zero =
+    record { state = c; tag = tag c } ∷ path_from child tag k (child c)
 path_from child tag (and_node a g) (suc n) = path_from child tag g n
 
 -- `active_path` is the active path in a store, from the root on, with levels for tags.
@@ -70,7 +72,8 @@ pub record StatesAgree (p : Program) (l : ℕ) (s t : Store) : Type 0 where
   pub dynamic_memories : (m : ℕ) → is_memory p.world m ≡ true → is_dynamic p.world m ≡ true
       → PartsAlike p.world l (start m) (start_whole m) s t × PartsAlike p.world l (next m) (next_whole m) s t
   -- of registers, cells and states, whether active or not
-  pub enforced_levels : (z : Slot) → held p.world z ≡ true → is_dynamic p.world (owner z) ≡ false → Low p.world.order l (authority p.world (owner z))
+  pub enforced_levels : (z : Slot) → held p.world z ≡ true → is_dynamic p.world (owner z) ≡ false
+      → Low p.world.order l (authority p.world (owner z))
       → level p.world z s ≡ level p.world z t
   pub paths : PathsRelated (Alike p.world.order l) (active_path p s) (active_path p t)
 
@@ -90,6 +93,7 @@ InputsAgree o l inputs others = AllZip (λ a b. Alike o l (a.number ≡ b.number
 abbrev pub StreamsAgree : Order → ℕ → List (List Tagged) → List (List Tagged) → Type 0
 StreamsAgree o l stream other = AllZip (InputsAgree o l) stream other
 
--- as many cycles, and in each the states and the refusals agree
+-- As many cycles, and in each the states and the refusals agree.
 abbrev pub RunsAgree : Program → ℕ → List After → List After → Type 0
-RunsAgree p l run other = AllZip (λ a b. StatesAgree p l a.store b.store × RefusalsAgree p.world.order l a.refused b.refused) run other
+RunsAgree p l run other = AllZip (λ a b. StatesAgree p l a.store b.store
+    × RefusalsAgree p.world.order l a.refused b.refused) run other

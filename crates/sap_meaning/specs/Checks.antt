@@ -43,7 +43,8 @@ child_opens w (and_node t g) (suc n) pc s = child_opens w g n pc s
 -- need.
 abbrev pub guard : World → Home → Step → Store → ℕ
 guard w at (assign site x e) s = if is_dynamic w x then w.order.bottom else level w (own x) s
-guard w at (write site m i e) s = if is_dynamic w m then w.order.bottom else w.order.join (tag w i s) (level w (start m (value w i s)) s)
+guard w at (write site m i e) s = if is_dynamic w m then w.order.bottom
+    else w.order.join (tag w i s) (level w (start m (value w i s)) s)
 guard w at (retag site x n) s = authority w x
 guard w at (retag_cell site m j n) s = authority w m
 guard w at (go_to site target) s = entry w target
@@ -53,11 +54,13 @@ guard w at (fall_to_child site hang) s = child_level w at.children (child at.sta
 abbrev pub test : World → Home → Step → ℕ → Store → Bool
 test w at (assign site x e) pc s = is_dynamic w x || w.order.le (w.order.join pc (tag w e s)) (level w (own x) s)
 test w at (write site m i e) pc s =
-    is_dynamic w m || w.order.le (w.order.join pc (w.order.join (tag w i s) (tag w e s))) (level w (start m (value w i s)) s)
+    is_dynamic w m || w.order.le (w.order.join pc (w.order.join (tag w i s) (tag w e s)))
+    (level w (start m (value w i s)) s)
 test w at (retag site x n) pc s =
     w.order.le (w.order.join pc (told w n s)) (authority w x) && w.order.le (authority w x) (new_level w n s)
 test w at (retag_cell site m j n) pc s =
-    w.order.le (w.order.join pc (w.order.join (told w n s) (tag w j s))) (authority w m) && w.order.le (authority w m) (new_level w n s)
+    w.order.le (w.order.join pc (w.order.join (told w n s) (tag w j s))) (authority w m)
+    && w.order.le (authority w m) (new_level w n s)
 test w at (go_to site target) pc s =
     (is_dynamic w target || w.order.le pc (level w (own target) s))
     && (is_dynamic w at.state || w.order.le (w.order.join pc (entry w target)) (level w (own at.state) s))

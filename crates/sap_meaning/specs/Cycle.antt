@@ -50,10 +50,11 @@ unfoldable pub cycle : Program → List Tagged → Store → After
 cycle p inputs s =
     let w = p.world in
     let begun = set_inputs w inputs s in
-    let a = root_fall w (root_touches w p.states) (λ t. does_state w t (root w)) p.states (child (root w) begun) begun in
+    let a = root_fall w (root_touches w p.states) (λ t. does_state w t (root w)) p.states
+    (child (root w) begun) begun in
     record { store = settle a.store; refused = a.refused }
 
--- the same by the program's lists
+-- The same by the program's lists.
 unfoldable pub cycle_listed : Program → List Tagged → Store → After
 cycle_listed p inputs s =
     let w = p.world in

@@ -17,14 +17,17 @@ effect w at enter (assign site x e) pc before s =
     stay (put_level w (own x) t (put_number (own x) (value w e before) s))
 effect w at enter (write site m i e) pc before s =
     let t = w.order.join pc (w.order.join (tag w i before) (tag w e before)) in
-    stay (put_number (next m (value w i before)) (value w e before) (if is_dynamic w m then raise w.order (λ x. nat_eq x m) t s else s))
+    stay (put_number (next m (value w i before)) (value w e before)
+    (if is_dynamic w m then raise w.order (λ x. nat_eq x m) t s else s))
 effect w at enter (retag site x n) pc before s =
     let t = new_level w n before in
-    stay (put_level w (own x) t (put_number (own x) (if w.order.le (level w (own x) before) t then number (own x) before else 0) s))
+    stay (put_level w (own x) t (put_number (own x) (if w.order.le (level w (own x) before) t
+    then number (own x) before else 0) s))
 effect w at enter (retag_cell site m j n) pc before s =
     let t = new_level w n before in
     let i = value w j before in
-    stay (put_level w (next m i) t (put_number (next m i) (if w.order.le (level w (start m i) before) t then number (start m i) before else 0) s))
+    stay (put_level w (next m i) t (put_number (next m i) (if w.order.le (level w (start m i) before) t
+    then number (start m i) before else 0) s))
 effect w at enter (go_to site target) pc before s =
     let moved = reset w target (put_child at.parent (place w target) s) in
     stay (if is_dynamic w target then put_level w (own target) pc moved else moved)
@@ -33,7 +36,8 @@ effect w at enter (fall_to_child site hang) pc before s =
 
 -- A step: what it raises is raised by its guard. A refused site is told before what the handler refuses, which runs in
 -- the context joined with the guard.
-unfoldable pub attempt : World → Home → (ℕ → ℕ → Store → After) → Step → (ℕ → Bool) → (handler : ℕ → Store → After) → ℕ → Store → After
+unfoldable pub attempt : World → Home → (ℕ → ℕ → Store → After) → Step → (ℕ → Bool)
+    → (handler : ℕ → Store → After) → ℕ → Store → After
 attempt w at enter k hangs handler pc s =
     let g = guard w at k s in
     let r = raise w.order hangs g s in
@@ -46,7 +50,8 @@ attempt w at enter k hangs handler pc s =
 
 -- A step with `then`: where its test holds, the accepted part comes behind its effect, in the context joined with the
 -- guard.
-unfoldable pub attempt_then : World → Home → (ℕ → ℕ → Store → After) → Step → (ℕ → Bool) → (accepted refused : ℕ → Store → After) → ℕ → Store → After
+unfoldable pub attempt_then : World → Home → (ℕ → ℕ → Store → After) → Step → (ℕ → Bool)
+    → (accepted refused : ℕ → Store → After) → ℕ → Store → After
 attempt_then w at enter k hangs accepted refused pc s =
     let g = guard w at k s in
     let r = raise w.order hangs g s in
@@ -81,14 +86,17 @@ unfoldable mutual
   pub does : World → Home → (ℕ → ℕ → Store → After) → Command → ℕ → Store → After
   does w at enter (lone k) = attempt w at enter k (raised_alone w at k) (λ pc s. stay s)
   does w at enter (try k hang h) = attempt w at enter k (touches w at (try k hang h)) (does_block w at enter h)
-  does w at enter (if_else hang e a b) = select w e (touches w at (if_else hang e a b)) (branch (does_block w at enter a) (does_block w at enter b))
-  does w at enter (try_then k hang a b) = attempt_then w at enter k (touches w at (try_then k hang a b)) (does_block w at enter a) (does_block w at enter b)
+  does w at enter (if_else hang e a b) = select w e (touches w at (if_else hang e a b))
+      (branch (does_block w at enter a) (does_block w at enter b))
+  does w at enter (try_then k hang a b) = attempt_then w at enter k (touches w at (try_then k hang a b))
+      (does_block w at enter a) (does_block w at enter b)
   does w at enter (case_of hang e arms) = select w e (touches w at (case_of hang e arms)) (does_arms w at enter arms)
 
   -- The block of the first arm that has the number is done, or else the last block.
   pub does_arms : World → Home → (ℕ → ℕ → Store → After) → Arms → ℕ → ℕ → Store → After
   does_arms w at enter (last_arm b) = λ n. does_block w at enter b
-  does_arms w at enter (and_arm constants b arms) = choose_arm constants (does_block w at enter b) (does_arms w at enter arms)
+  does_arms w at enter (and_arm constants b arms) =
+      choose_arm constants (does_block w at enter b) (does_arms w at enter arms)
 
   -- The commands of a list are done in order.
   pub does_block : World → Home → (ℕ → ℕ → Store → After) → Block → ℕ → Store → After
@@ -99,7 +107,8 @@ unfoldable mutual
 unfoldable mutual
   -- A state's body is done.
   pub does_state : World → State → (parent : ℕ) → ℕ → Store → After
-  does_state w (state_node s b g) parent pc st = does_block w (record { state = s; parent = parent; children = g }) (does_child w g s) b pc st
+  does_state w (state_node s b g) parent pc st =
+      does_block w (record { state = s; parent = parent; children = g }) (does_child w g s) b pc st
 
   -- The body of the n-th state of the parent's group is done.
   pub does_child : World → Group → (parent n : ℕ) → ℕ → Store → After

@@ -8,7 +8,7 @@ use Rattle.sap_meaning.specs.Store.{own, number, Refusal, After}
 use Rattle.sap_meaning.specs.Cycle.{Tagged}
 use Rattle.sap_meaning.specs.State.{labelled_run}
 
--- low is level 0, high is level 1
+-- Low is level 0, high is level 1.
 abbrev pub two_levels : Order
 two_levels = record {
   count = 2;
@@ -18,7 +18,7 @@ two_levels = record {
   top = 1;
 }
 
--- low is level 0, high is level 3, and levels 1 and 2 stand between them
+-- Low is level 0, high is level 3, and levels 1 and 2 stand between them.
 abbrev pub four_levels : Order
 four_levels = record {
   count = 4;
@@ -36,7 +36,7 @@ an_input u = record { kind = input; width = u; dynamic = true; declared = 0; aut
 abbrev pub a_register : ℕ → Entity
 a_register u = record { kind = register; width = u; dynamic = true; declared = 0; authority = 0; initial = 0 }
 
--- an enforced register with its level and the number that it starts with
+-- An enforced register with its level and the number that it starts with.
 abbrev pub held_register : (width level initial : ℕ) → Entity
 held_register u t n = record { kind = register; width = u; dynamic = false; declared = t; authority = 0; initial = n }
 
@@ -68,7 +68,7 @@ low n = at_level 0 n
 abbrev pub high : ℕ → Tagged
 high n = at_level 1 n
 
--- a cycle as it shows: a register with its level, and what was refused
+-- A cycle as it shows: a register with its level, and what was refused.
 abbrev pub shown : ℕ → After → Tagged × List Refusal
 shown x a = (record { number = number (own x) a.store; level = a.store.level (own x) }, a.refused)
 
@@ -87,13 +87,17 @@ refused_at k t = record { site = k; level = t }
 
 -- The programs below have no lists of what hangs, since the labelled run does not read them.
 abbrev pub program_of : Order → List Entity → (children : List ℕ) → Group → Program
-program_of o es children g = record { world = record { order = o; entities = es; children = children }; states = g; hang = [] }
+program_of o es children g = record {
+  world = record { order = o; entities = es; children = children };
+  states = g;
+  hang = [];
+}
 
--- the state s without children, which goes to itself behind its commands
+-- The state s without children, which goes to itself behind its commands.
 abbrev pub loop : (s site : ℕ) → (Block → Block) → Group
 loop s site b = and_node (state_node s (b (command_then (lone (go_to site s)) end_block)) no_node) no_node
 
--- input a : 8; reg x : 8 dynamic; state S enforced low { x := a + 1; goto S; }
+-- The text `input a : 8; reg x : 8 dynamic; state S enforced low { x := a + 1; goto S; }`.
 abbrev pub sum : Program
 sum = program_of two_levels (an_input 8 ∷ a_register 8 ∷ held_state 0 2 0 ∷ []) (0 ∷ 0 ∷ 0 ∷ 1 ∷ [])
     (loop 2 1 (λ b. command_then (lone (assign 0 1 (two Add (read 0) (constant 8 1)))) b))
@@ -102,140 +106,164 @@ sum = program_of two_levels (an_input 8 ∷ a_register 8 ∷ held_state 0 2 0 �
 abbrev pub Sum : Type 0
 Sum = shows sum 1 ((low 5 ∷ []) ∷ (high 255 ∷ []) ∷ []) ≡ (low 6, []) ∷ (high 0, []) ∷ []
 
--- input a : 8; reg y : 8 enforced low = 7; state S enforced low { y := a; goto S; }
+-- The text `input a : 8; reg y : 8 enforced low = 7; state S enforced low { y := a; goto S; }`.
 abbrev pub guarded : Program
 guarded = program_of two_levels (an_input 8 ∷ held_register 8 0 7 ∷ held_state 0 2 0 ∷ []) (0 ∷ 0 ∷ 0 ∷ 1 ∷ [])
     (loop 2 2 (λ b. command_then (lone (assign 1 1 (read 0))) b))
 
--- a write from above is refused, and told at the level of what it would write
+-- A write from above is refused, and told at the level of what it would write.
 abbrev pub GuardedWrite : Type 0
 GuardedWrite = shows guarded 1 ((high 5 ∷ []) ∷ (low 5 ∷ []) ∷ []) ≡ (low 7, refused_at 1 0 ∷ []) ∷ (low 5, []) ∷ []
 
--- .. y := a otherwise { y := 9; }
+-- The same design with `y := a otherwise { y := 9; }`.
 abbrev pub handled : Program
 handled = program_of two_levels (an_input 8 ∷ held_register 8 0 7 ∷ held_state 0 2 0 ∷ []) (0 ∷ 0 ∷ 0 ∷ 1 ∷ [])
-    (loop 2 3 (λ b. command_then (try (assign 1 1 (read 0)) [] (command_then (lone (assign 2 1 (constant 8 9))) end_block)) b))
+    (loop 2 3 (λ b. command_then (try (assign 1 1 (read 0)) []
+    (command_then (lone (assign 2 1 (constant 8 9))) end_block)) b))
 
--- a handler at the level of the guard may write
+-- A handler at the level of the guard may write.
 abbrev pub Handler : Type 0
 Handler = shows handled 1 ((high 5 ∷ []) ∷ []) ≡ (low 9, refused_at 1 0 ∷ []) ∷ []
 
--- input a : 8; reg x : 8 dynamic; state S enforced low { if (a == 1) { x := 1; } goto S; }
+-- The text `input a : 8; reg x : 8 dynamic; state S enforced low { if (a == 1) { x := 1; } goto S; }`.
 abbrev pub conditional : Program
 conditional = program_of two_levels (an_input 8 ∷ a_register 8 ∷ held_state 0 2 0 ∷ []) (0 ∷ 0 ∷ 0 ∷ 1 ∷ [])
-    (loop 2 1 (λ b. command_then (if_else [] (two Eq (read 0) (constant 8 1)) (command_then (lone (assign 0 1 (constant 8 1))) end_block) end_block) b))
+    (loop 2 1 (λ b. command_then (if_else [] (two Eq (read 0) (constant 8 1))
+    (command_then (lone (assign 0 1 (constant 8 1))) end_block) end_block) b))
 
--- what hangs on a condition is raised in the branch that is not taken, too
+-- What hangs on a condition is raised in the branch that is not taken, too.
 abbrev pub BranchNotTaken : Type 0
 BranchNotTaken = shows conditional 1 ((high 0 ∷ []) ∷ []) ≡ (high 0, []) ∷ []
 
--- input a : 8; reg z : 8 enforced high = 3; state S enforced low { z := a; setTag(z, low); goto S; }
+-- The text `input a : 8; reg z : 8 enforced high = 3; state S enforced low { z := a; setTag(z, low); goto S; }`.
 abbrev pub lowered_tag : Program
 lowered_tag = program_of two_levels (an_input 8 ∷ held_register 8 1 3 ∷ held_state 0 2 0 ∷ []) (0 ∷ 0 ∷ 0 ∷ 1 ∷ [])
     (loop 2 3 (λ b. command_then (lone (assign 1 1 (read 0))) (command_then (lone (retag 2 1 (fixed 0))) b)))
 
--- a lower level sets the number to 0, and the next write from above is refused
+-- A lower level sets the number to 0, and the next write from above is refused.
 abbrev pub LoweredTag : Type 0
 LoweredTag = shows lowered_tag 1 ((high 5 ∷ []) ∷ (high 6 ∷ []) ∷ []) ≡ (low 0, []) ∷ (low 0, refused_at 1 0 ∷ []) ∷ []
 
--- input a : 8; reg z : 8 enforced low = 3; state S enforced low { setTag(z, level(a)); goto S; }
+-- The text `input a : 8; reg z : 8 enforced low = 3; state S enforced low { setTag(z, level(a)); goto S; }`.
 abbrev pub placed_tag : Program
 placed_tag = program_of two_levels (an_input 8 ∷ held_register 8 0 3 ∷ held_state 0 2 0 ∷ []) (0 ∷ 0 ∷ 0 ∷ 1 ∷ [])
     (loop 2 2 (λ b. command_then (lone (retag 1 1 (at_place (read 0)))) b))
 
--- beyond the last level it is the top; and what a tag tells may not be above the authority
+-- Beyond the last level it is the top; and what a tag tells may not be above the authority.
 abbrev pub PlacedTag : Type 0
-PlacedTag = shows placed_tag 1 ((low 7 ∷ []) ∷ (low 0 ∷ []) ∷ (high 1 ∷ []) ∷ []) ≡ (high 3, []) ∷ (low 0, []) ∷ (low 0, refused_at 1 0 ∷ []) ∷ []
+PlacedTag = shows placed_tag 1 ((low 7 ∷ []) ∷ (low 0 ∷ []) ∷ (high 1 ∷ []) ∷ []) ≡ (high 3, [])
+    ∷ (low 0, []) ∷ (low 0, refused_at 1 0 ∷ []) ∷ []
 
--- reg q : 8 enforced high under level 1 = 4; state S enforced low { setTag(q, level 2); goto S; }
+-- The text `reg q : 8 enforced high under level 1 = 4; state S enforced low { setTag(q, level 2); goto S; }`.
 abbrev pub under_authority : Program
-under_authority = program_of four_levels (record { kind = register; width = 8; dynamic = false; declared = 3; authority = 1; initial = 4 } ∷ held_state 0 1 0 ∷ []) (0 ∷ 0 ∷ 1 ∷ [])
+under_authority = program_of four_levels
+    (record { kind = register; width = 8; dynamic = false; declared = 3; authority = 1; initial = 4 }
+    ∷ held_state 0 1 0 ∷ []) (0 ∷ 0 ∷ 1 ∷ [])
     (loop 1 2 (λ b. command_then (lone (retag 1 0 (fixed 2))) b))
 
--- a level that is not above the authority is refused
+-- A level that is not above the authority is refused.
 abbrev pub UnderAuthority : Type 0
 UnderAuthority = shows under_authority 0 ([] ∷ []) ≡ (at_level 3 4, refused_at 1 1 ∷ []) ∷ []
 
--- if (a == 1) { goto the state t; } else { goto the state s; }, which are the check sites k and j
+-- The text `if (a == 1) { goto the state t; } else { goto the state s; }`, in which the check sites are k and j.
 abbrev pub fork : (t k s j : ℕ) → Block
-fork t k s j = command_then (if_else [] (two Eq (read 0) (constant 8 1)) (command_then (lone (go_to k t)) end_block) (command_then (lone (go_to j s)) end_block)) end_block
+fork t k s j = command_then (if_else [] (two Eq (read 0) (constant 8 1))
+    (command_then (lone (go_to k t)) end_block) (command_then (lone (go_to j s)) end_block)) end_block
 
--- x := n
+-- The text `x := n`.
 abbrev pub put_x : ℕ → Command
 put_x n = lone (assign 0 1 (constant 8 n))
 
--- state S enforced low { x := 1; if (a == 1) { goto T; } else { goto S; } } state T enforced high { x := 2; goto T; }
+-- The text `state S enforced low { x := 1; if (a == 1) { goto T; } else { goto S; } } state T enforced high { x := 2;
+-- goto T; }`.
 abbrev pub enforced_states : Program
-enforced_states = program_of two_levels (an_input 8 ∷ a_register 8 ∷ held_state 0 2 0 ∷ held_state 1 3 1 ∷ []) (0 ∷ 0 ∷ 0 ∷ 0 ∷ 2 ∷ [])
+enforced_states = program_of two_levels (an_input 8 ∷ a_register 8 ∷ held_state 0 2 0 ∷ held_state 1 3 1
+    ∷ []) (0 ∷ 0 ∷ 0 ∷ 0 ∷ 2 ∷ [])
     (and_node (state_node 2 (command_then (put_x 1) (fork 3 1 2 2)) no_node)
     (and_node (state_node 3 (command_then (put_x 2) (command_then (lone (go_to 3 3)) end_block)) no_node) no_node))
 
--- a goto under a condition from above leaves an enforced state where it is
+-- A goto under a condition from above leaves an enforced state where it is.
 abbrev pub EnforcedStates : Type 0
-EnforcedStates = shows enforced_states 1 ((high 1 ∷ []) ∷ (low 0 ∷ []) ∷ []) ≡ (low 1, refused_at 1 1 ∷ []) ∷ (low 1, []) ∷ []
+EnforcedStates = shows enforced_states 1 ((high 1 ∷ []) ∷ (low 0 ∷ []) ∷ [])
+    ≡ (low 1, refused_at 1 1 ∷ []) ∷ (low 1, []) ∷ []
 
--- state S dynamic { x := 0; if (a == 1) { goto T; } else { goto S; } } state T dynamic { x := 1; goto T; }
+-- The text `state S dynamic { x := 0; if (a == 1) { goto T; } else { goto S; } } state T dynamic { x := 1; goto T; }`.
 abbrev pub dynamic_states : Program
-dynamic_states = program_of two_levels (an_input 8 ∷ a_register 8 ∷ a_state 0 2 ∷ a_state 1 3 ∷ []) (0 ∷ 0 ∷ 0 ∷ 0 ∷ 2 ∷ [])
+dynamic_states = program_of two_levels (an_input 8 ∷ a_register 8 ∷ a_state 0 2 ∷ a_state 1 3 ∷ [])
+    (0 ∷ 0 ∷ 0 ∷ 0 ∷ 2 ∷ [])
     (and_node (state_node 2 (command_then (put_x 0) (fork 3 0 2 0)) no_node)
     (and_node (state_node 3 (command_then (put_x 1) (command_then (lone (go_to 0 3)) end_block)) no_node) no_node))
 
--- a dynamic state takes the level of what led to it, whichever it was
+-- A dynamic state takes the level of what led to it, whichever it was.
 abbrev pub DynamicStates : Type 0
 DynamicStates = (shows dynamic_states 1 ((high 1 ∷ []) ∷ (low 0 ∷ []) ∷ []) ≡ (low 0, []) ∷ (high 1, []) ∷ [])
     × (shows dynamic_states 1 ((high 0 ∷ []) ∷ (low 0 ∷ []) ∷ []) ≡ (low 0, []) ∷ (high 0, []) ∷ [])
 
--- state P enforced low { if (a == 1) { fall; } else { fall; } state C enforced low { x := 1; goto C; } }
+-- The text `state P enforced low { if (a == 1) { fall; } else { fall; } state C enforced low { x := 1; goto C; } }`.
 abbrev pub falls_twice : Program
-falls_twice = program_of two_levels (an_input 8 ∷ a_register 8 ∷ held_state 0 3 0 ∷ held_state 0 3 0 ∷ []) (0 ∷ 0 ∷ 1 ∷ 0 ∷ 1 ∷ [])
-    (and_node (state_node 2 (command_then (if_else [] (two Eq (read 0) (constant 8 1)) (command_then (lone (fall_to_child 1 [])) end_block)
+falls_twice = program_of two_levels (an_input 8 ∷ a_register 8 ∷ held_state 0 3 0 ∷ held_state 0 3 0
+    ∷ []) (0 ∷ 0 ∷ 1 ∷ 0 ∷ 1 ∷ [])
+    (and_node (state_node 2 (command_then (if_else [] (two Eq (read 0) (constant 8 1))
+    (command_then (lone (fall_to_child 1 [])) end_block)
     (command_then (lone (fall_to_child 2 [])) end_block)) end_block)
-    (and_node (state_node 3 (command_then (put_x 1) (command_then (lone (go_to 3 3)) end_block)) no_node) no_node)) no_node)
+    (and_node (state_node 3 (command_then (put_x 1) (command_then (lone (go_to 3 3)) end_block)) no_node) no_node))
+    no_node)
 
--- what is assigned below a fall hangs on the condition, and a fall from above into an enforced state is refused
+-- What is assigned below a fall hangs on the condition, and a fall from above into an enforced state is refused.
 abbrev pub FallsTwice : Type 0
 FallsTwice = shows falls_twice 1 ((high 1 ∷ []) ∷ (low 1 ∷ []) ∷ []) ≡ (high 0, refused_at 1 1 ∷ []) ∷ (low 1, []) ∷ []
 
--- state P enforced low { fall; state C dynamic { x := 0; if (a == 1) { goto D; } else { goto C; } } state D dynamic { x := 1; goto D; } }
+-- The text `state P enforced low { fall; state C dynamic { x := 0; if (a == 1) { goto D; } else { goto C; } } state D
+-- dynamic { x := 1; goto D; } }`.
 abbrev pub falls_into : Program
-falls_into = program_of two_levels (an_input 8 ∷ a_register 8 ∷ held_state 0 4 0 ∷ a_state 0 3 ∷ a_state 1 4 ∷ []) (0 ∷ 0 ∷ 2 ∷ 0 ∷ 0 ∷ 1 ∷ [])
+falls_into = program_of two_levels (an_input 8 ∷ a_register 8 ∷ held_state 0 4 0 ∷ a_state 0 3
+    ∷ a_state 1 4 ∷ []) (0 ∷ 0 ∷ 2 ∷ 0 ∷ 0 ∷ 1 ∷ [])
     (and_node (state_node 2 (command_then (lone (fall_to_child 0 [])) end_block)
     (and_node (state_node 3 (command_then (put_x 0) (fork 4 0 3 0)) no_node)
-    (and_node (state_node 4 (command_then (put_x 1) (command_then (lone (go_to 0 4)) end_block)) no_node) no_node))) no_node)
+    (and_node (state_node 4 (command_then (put_x 1) (command_then (lone (go_to 0 4)) end_block)) no_node) no_node)))
+    no_node)
 
--- the body that a fall enters runs in the context joined with its state's level
+-- The body that a fall enters runs in the context joined with its state's level.
 abbrev pub FallsInto : Type 0
 FallsInto = shows falls_into 1 ((high 1 ∷ []) ∷ (low 0 ∷ []) ∷ []) ≡ (low 0, []) ∷ (high 1, []) ∷ []
 
--- state P enforced low { if (a == 1) { goto Q; } else { fall; } state C1 .. { x := 1; goto C2; } state C2 .. { x := 2; goto C2; } }
--- state Q enforced low { x := 9; goto P; }
+-- The text `state P enforced low { if (a == 1) { goto Q; } else { fall; } state C1 .. { x := 1; goto C2; } state C2 ..
+-- { x := 2; goto C2; } } state Q enforced low { x := 9; goto P; }`.
 abbrev pub resets : Program
-resets = program_of two_levels (an_input 8 ∷ a_register 8 ∷ held_state 0 4 0 ∷ held_state 0 3 0 ∷ held_state 1 4 0 ∷ held_state 1 5 0 ∷ []) (0 ∷ 0 ∷ 2 ∷ 0 ∷ 0 ∷ 0 ∷ 2 ∷ [])
-    (and_node (state_node 2 (command_then (if_else [] (two Eq (read 0) (constant 8 1)) (command_then (lone (go_to 1 5)) end_block)
+resets = program_of two_levels (an_input 8 ∷ a_register 8 ∷ held_state 0 4 0 ∷ held_state 0 3 0
+    ∷ held_state 1 4 0 ∷ held_state 1 5 0 ∷ []) (0 ∷ 0 ∷ 2 ∷ 0 ∷ 0 ∷ 0 ∷ 2 ∷ [])
+    (and_node (state_node 2 (command_then (if_else [] (two Eq (read 0) (constant 8 1))
+    (command_then (lone (go_to 1 5)) end_block)
     (command_then (lone (fall_to_child 2 [])) end_block)) end_block)
     (and_node (state_node 3 (command_then (put_x 1) (command_then (lone (go_to 3 4)) end_block)) no_node)
     (and_node (state_node 4 (command_then (put_x 2) (command_then (lone (go_to 4 4)) end_block)) no_node) no_node)))
     (and_node (state_node 5 (command_then (put_x 9) (command_then (lone (go_to 5 2)) end_block)) no_node) no_node))
 
--- a goto takes the groups below its target back to their first children
+-- A goto takes the groups below its target back to their first children.
 abbrev pub Resets : Type 0
 Resets = shows resets 1 ((low 0 ∷ []) ∷ (low 0 ∷ []) ∷ (low 1 ∷ []) ∷ (low 0 ∷ []) ∷ (low 0 ∷ []) ∷ [])
     ≡ (low 1, []) ∷ (low 2, []) ∷ (low 2, []) ∷ (low 9, []) ∷ (low 1, []) ∷ []
 
--- input a : 2; input b : 2; mem m : 8[4] dynamic; reg x : 8 dynamic; state S enforced low { m[a] := 5; x := m[b]; goto S; }
+-- The text `input a : 2; input b : 2; mem m : 8[4] dynamic; reg x : 8 dynamic; state S enforced low { m[a] := 5; x :=
+-- m[b]; goto S; }`.
 abbrev pub memory_read : Program
-memory_read = program_of two_levels (an_input 2 ∷ an_input 2 ∷ a_memory 8 4 ∷ a_register 8 ∷ held_state 0 4 0 ∷ []) (0 ∷ 0 ∷ 0 ∷ 0 ∷ 0 ∷ 1 ∷ [])
-    (loop 4 1 (λ b. command_then (lone (write 0 2 (read 0) (constant 8 5))) (command_then (lone (assign 0 3 (cell 2 (read 1)))) b)))
+memory_read = program_of two_levels (an_input 2 ∷ an_input 2 ∷ a_memory 8 4 ∷ a_register 8
+    ∷ held_state 0 4 0 ∷ []) (0 ∷ 0 ∷ 0 ∷ 0 ∷ 0 ∷ 1 ∷ [])
+    (loop 4 1 (λ b. command_then (lone (write 0 2 (read 0) (constant 8 5)))
+    (command_then (lone (assign 0 3 (cell 2 (read 1)))) b)))
 
--- a read sees the cells and the level with which the cycle began
+-- A read sees the cells and the level with which the cycle began.
 abbrev pub MemoryRead : Type 0
 MemoryRead = shows memory_read 3 ((high 1 ∷ low 1 ∷ []) ∷ (high 1 ∷ low 1 ∷ []) ∷ []) ≡ (low 0, []) ∷ (high 5, []) ∷ []
 
--- input a : 2; mem k : 8[4] enforced low; reg y : 8 enforced low; state S enforced low { k[a] := 1 otherwise { y := 9; } goto S; }
+-- The text `input a : 2; mem k : 8[4] enforced low; reg y : 8 enforced low; state S enforced low { k[a] := 1 otherwise
+-- { y := 9; } goto S; }`.
 abbrev pub memory_handler : Program
-memory_handler = program_of two_levels (an_input 2 ∷ held_memory 8 4 0 ∷ held_register 8 0 0 ∷ held_state 0 3 0 ∷ []) (0 ∷ 0 ∷ 0 ∷ 0 ∷ 1 ∷ [])
-    (loop 3 3 (λ b. command_then (try (write 1 1 (read 0) (constant 8 1)) [] (command_then (lone (assign 2 2 (constant 8 9))) end_block)) b))
+memory_handler = program_of two_levels (an_input 2 ∷ held_memory 8 4 0 ∷ held_register 8 0 0
+    ∷ held_state 0 3 0 ∷ []) (0 ∷ 0 ∷ 0 ∷ 0 ∷ 1 ∷ [])
+    (loop 3 3 (λ b. command_then (try (write 1 1 (read 0) (constant 8 1)) []
+    (command_then (lone (assign 2 2 (constant 8 9))) end_block)) b))
 
--- a handler runs in the context joined with the guard, to which the index belongs
+-- A handler runs in the context joined with the guard, to which the index belongs.
 abbrev pub MemoryHandler : Type 0
 MemoryHandler = shows memory_handler 2 ((high 3 ∷ []) ∷ []) ≡ (low 0, refused_at 1 1 ∷ refused_at 2 1 ∷ []) ∷ []

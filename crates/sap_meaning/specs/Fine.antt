@@ -12,11 +12,11 @@ use Rattle.sap_meaning.specs.Once.{OnceGroup}
 abbrev pub FineTerm : World → Term ℕ → Type 0
 FineTerm w e = EveryRead (λ x. (is_input w x || is_register w x) ≡ true) (λ m i. is_memory w m ≡ true) e
 
--- a written level is one of the lattice
+-- A written level is one of the lattice.
 abbrev pub FineLevel : World → LevelTerm → Type 0
 FineLevel w n = EveryLevel (λ level. level < w.order.count) (FineTerm w) n
 
--- how many states a group has
+-- How many states a group has.
 abbrev pub size : Group → ℕ
 size no_node = 0
 size (and_node t g) = suc (size g)
@@ -27,15 +27,16 @@ abbrev pub FineStep : World → (siblings children : Group) → Step → Type 0
 FineStep w q g (assign site x e) = (is_register w x ≡ true) × FineTerm w e
 FineStep w q g (write site m i e) = (is_memory w m ≡ true) × FineTerm w i × FineTerm w e
 FineStep w q g (retag site x n) = ((is_register w x || is_state w x) ≡ true) × (is_dynamic w x ≡ false) × FineLevel w n
-FineStep w q g (retag_cell site m j n) = (is_memory w m ≡ true) × (is_dynamic w m ≡ false) × FineTerm w j × FineLevel w n
+FineStep w q g (retag_cell site m j n) = (is_memory w m ≡ true) × (is_dynamic w m ≡ false)
+    × FineTerm w j × FineLevel w n
 FineStep w q g (go_to site target) = among q target ≡ true
 FineStep w q g (fall_to_child site hang) = 0 < size g
 
--- what is asked of a command alone
+-- What is asked of a command alone.
 abbrev pub FineCommand : World → (siblings children : Group) → Command → Type 0
 FineCommand w q g c = Asks (FineStep w q g) (FineTerm w) c
 
--- a goto or a fall
+-- A goto or a fall.
 abbrev pub transfers : Step → Bool
 transfers (assign site x e) = false
 transfers (write site m i e) = false
@@ -44,16 +45,16 @@ transfers (retag_cell site m j n) = false
 transfers (go_to site target) = true
 transfers (fall_to_child site hang) = true
 
--- its step, if it has one, is no transfer
+-- Its step, if it has one, is no transfer.
 abbrev pub NoTransfer : Command → Type 0
 NoTransfer c = Asks (λ k. transfers k ≡ false) (λ e. Unit {0}) c
 
--- no transfer stands in it
+-- No transfer stands in it.
 abbrev pub Open : Command → Type 0
 Open c = Every NoTransfer c
 
--- A list closes: its last command is a transfer, whose handler closes, or an `if` whose branches close, or a `case`, or a
--- `then` whose command is no transfer, all of whose blocks close; and all before it are open.
+-- A list closes: its last command is a transfer, whose handler closes, or an `if` whose branches close, or a `case`, or
+-- a `then` whose command is no transfer, all of whose blocks close; and all before it are open.
 abbrev mutual
   pub Closes : Block → Type 0
   Closes end_block = ⊥
@@ -71,7 +72,7 @@ abbrev mutual
   ClosingArms (last_arm b) = Closes b
   ClosingArms (and_arm constants b arms) = Closes b × ClosingArms arms
 
--- x is a state of the group, or below one
+-- `x` is a state of the group, or below one.
 abbrev pub inside : Group → ℕ → Bool
 inside no_node x = false
 inside (and_node (state_node s b k) g) x = nat_eq x s || (inside k x || inside g x)
@@ -84,7 +85,7 @@ number_of (state_node s b g) = s
 abbrev pub kids_of : State → Group
 kids_of (state_node s b g) = g
 
--- the state is the n-th of the group
+-- The state is the n-th of the group.
 abbrev pub Nth : Group → ℕ → State → Type 0
 Nth no_node n t = ⊥
 Nth (and_node a g) zero t = a ≡ t
@@ -110,12 +111,13 @@ abbrev mutual
   pub FineState : World → (siblings : Group) → (place : ℕ) → State → Type 0
   FineState w q n (state_node s b g) = FineNode w q n s b g × FineGroup w g 0 g
 
-  -- the states of q from the n-th on, each with numbers before those of the later ones
+  -- The states of q from the n-th on, each with numbers before those of the later ones.
   pub FineGroup : World → (siblings : Group) → (place : ℕ) → Group → Type 0
   FineGroup w q n no_node = Unit {0}
-  FineGroup w q n (and_node t g) = FineState w q n t × FineGroup w q (suc n) g × ((x : ℕ) → inside g x ≡ true → last w (number_of t) < x)
+  FineGroup w q n (and_node t g) = FineState w q n t × FineGroup w q (suc n) g
+      × ((x : ℕ) → inside g x ≡ true → last w (number_of t) < x)
 
--- each list in the program has exactly what hangs
+-- Each list in the program has exactly what hangs.
 abbrev pub ExactList : World → Home → List Bool → Command → Type 0
 ExactList w at hang c = (x : ℕ) → listed hang x ≡ touches w at c x
 
@@ -128,7 +130,7 @@ ExactStep w at (retag_cell site m j n) = Unit {0}
 ExactStep w at (go_to site target) = Unit {0}
 ExactStep w at (fall_to_child site hang) = ExactList w at hang (lone (fall_to_child site hang))
 
--- what is asked of a command alone
+-- What is asked of a command alone.
 abbrev pub ExactCommand : World → Home → Command → Type 0
 ExactCommand w at (lone k) = ExactStep w at k
 ExactCommand w at (try k hang h) = ExactList w at hang (try k hang h)
@@ -139,7 +141,8 @@ ExactCommand w at (case_of hang e arms) = ExactList w at hang (case_of hang e ar
 -- The stored lists in a state's body and in those of its descendants are what the commands touch.
 abbrev mutual
   pub ExactState : World → (parent : ℕ) → State → Type 0
-  ExactState w p (state_node s b g) = EveryInBlock (ExactCommand w (record { state = s; parent = p; children = g })) b × ExactGroup w s g
+  ExactState w p (state_node s b g) = EveryInBlock
+      (ExactCommand w (record { state = s; parent = p; children = g })) b × ExactGroup w s g
 
   pub ExactGroup : World → (parent : ℕ) → Group → Type 0
   ExactGroup w p no_node = Unit {0}
@@ -159,4 +162,5 @@ pub record FineProgram (p : Program) : Type 0 where
   pub once : OnceGroup p.states
   pub inputs : (x : ℕ) → is_input p.world x ≡ true → is_dynamic p.world x ≡ true
   -- each enforced entity starts at or above its authority
-  pub above : (x : ℕ) → is_dynamic p.world x ≡ false → p.world.order.le (authority p.world x) (entity p.world x).declared ≡ true
+  pub above : (x : ℕ) → is_dynamic p.world x ≡ false
+      → p.world.order.le (authority p.world x) (entity p.world x).declared ≡ true

@@ -14,29 +14,32 @@ use Rattle.sap_meaning.specs.Walks.{Every}
 
 -- Where the lists in a program are exact, a cycle by them is the cycle.
 abbrev pub ListsServe : Type 0
-ListsServe = (p : Program) → ExactProgram p → (inputs : List Tagged) (s : Store) → cycle_listed p inputs s ≡ cycle p inputs s
+ListsServe = (p : Program) → ExactProgram p → (inputs : List Tagged) (s : Store)
+    → cycle_listed p inputs s ≡ cycle p inputs s
 
 -- A function from stores to results keeps what every state keeps.
 abbrev pub Keeps : World → (Store → After) → Type 0
 Keeps w f = (s : Store) → Holds w s → Holds w (f s).store
 
--- So does every command in the body of a state of the group q, in which each state has a place, where what the
--- children do does, ..
+-- Every command in the body of a state of the group q, in which each state has a place, keeps it, where what the
+-- children do keeps it.
 abbrev pub CommandsKeep : Type 0
 CommandsKeep = (w : World) (at : Home) (q : Group) → ((s : ℕ) → among q s ≡ true → place w s < children w at.parent)
     → (enter : ℕ → ℕ → Store → After) → ((n pc : ℕ) → Keeps w (enter n pc))
     → (c : Command) → Every (FineCommand w q at.children) c → (pc : ℕ) → Keeps w (does w at enter c pc)
 
--- .. the first state is one between cycles, and every cycle leads from such a one to another.
+-- The first state is one between cycles, and every cycle leads from such a state to another.
 abbrev pub StatesRest : Type 0
 StatesRest = (p : Program) → FineProgram p
-    → Resting p.world (first p.world) × ((inputs : List Tagged) (s : Store) → Resting p.world s → Resting p.world (cycle p inputs s).store)
+    → Resting p.world (first p.world) × ((inputs : List Tagged) (s : Store) → Resting p.world s
+    → Resting p.world (cycle p inputs s).store)
 
 -- And numbers stay within their widths, and levels levels, as long as the inputs' do.
 abbrev pub NumbersFit : Type 0
 NumbersFit = (p : Program) → FineProgram p → SizedProgram p
     → Fits p.world (first p.world)
-    × ((inputs : List Tagged) (s : Store) → InputsFit p.world inputs → Fits p.world s → Fits p.world (cycle p inputs s).store)
+    × ((inputs : List Tagged) (s : Store) → InputsFit p.world inputs → Fits p.world s
+    → Fits p.world (cycle p inputs s).store)
 
 -- What is refused in a cycle are check sites in the order of the text; so where these rise, it rises, and no site is
 -- refused twice.

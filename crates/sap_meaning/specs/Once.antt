@@ -3,7 +3,7 @@ use Rattle.std.specs.Prelude.{◌≡◌, ℕ, Bool, false, ◌&&◌, ◌||◌, n
 use Rattle.sap_meaning.specs.Program.{Step, assign, write, retag, retag_cell, go_to, fall_to_child, Command, lone, try, if_else, try_then, case_of, Arms, last_arm, and_arm, Block, end_block, command_then, State, state_node, Group, no_node, and_node}
 use Rattle.sap_meaning.specs.Walks.{some, some_in_arms, some_in_block}
 
--- a step writes or retags a cell of the memory m
+-- A step writes or retags a cell of the memory m.
 abbrev pub step_writes : Step → ℕ → Bool
 step_writes (assign site x e) m = false
 step_writes (write site n i e) m = nat_eq m n
@@ -16,7 +16,7 @@ step_writes (fall_to_child site hang) m = false
 abbrev pub writes : Command → ℕ → Bool
 writes c m = some (λ k. step_writes k m) c
 
--- it writes m, or falls, where m is written by what a fall leads to
+-- It writes m, or falls, where m is written by what a fall leads to.
 abbrev pub step_reaching : (falls : ℕ → Bool) → Step → ℕ → Bool
 step_reaching falls (assign site x e) m = false
 step_reaching falls (write site n i e) m = nat_eq m n
@@ -37,7 +37,7 @@ arms_reaching falls arms m = some_in_arms (λ k. step_reaching falls k m) arms
 abbrev pub block_reaching : (falls : ℕ → Bool) → Block → ℕ → Bool
 block_reaching falls b m = some_in_block (λ k. step_reaching falls k m) b
 
--- the body of a state writes m, or one that it may fall into does
+-- The body of a state writes m, or one that it may fall into does.
 abbrev mutual
   pub state_reaches : State → ℕ → Bool
   state_reaches (state_node s b g) m = block_reaching (group_reaches g) b m
@@ -46,7 +46,7 @@ abbrev mutual
   group_reaches no_node m = false
   group_reaches (and_node t g) m = state_reaches t m || group_reaches g m
 
--- it writes m, or a body that it may fall into does, where g are the children
+-- It writes m, or a body that it may fall into does, where g are the children.
 abbrev pub step_reaches : Group → Step → ℕ → Bool
 step_reaches g k m = step_reaching (group_reaches g) k m
 
@@ -58,7 +58,7 @@ reaches g c m = reaching (group_reaches g) c m
 abbrev pub block_reaches : Group → Block → ℕ → Bool
 block_reaches g b m = block_reaching (group_reaches g) b m
 
--- a fall asks for what has to hold where it leads
+-- A fall asks for what has to hold where it leads.
 abbrev pub OnceStep : (below : Type 0) → Step → Type 0
 OnceStep below (assign site x e) = Unit {0}
 OnceStep below (write site m i e) = Unit {0}
@@ -67,16 +67,18 @@ OnceStep below (retag_cell site m j n) = Unit {0}
 OnceStep below (go_to site target) = Unit {0}
 OnceStep below (fall_to_child site hang) = below
 
--- No memory is written after it was written, on any path: a refused fall has entered no child before its handler. What comes
--- behind an accepted step comes behind all that the step reaches.
+-- No memory is written after it was written, on any path: a refused fall has entered no child before its handler. What
+-- comes behind an accepted step comes behind all that the step reaches.
 abbrev mutual
   pub Once : Group → (below : Type 0) → Command → Type 0
   Once g below (lone k) = OnceStep below k
-  Once g below (try k hang h) = OnceStep below k × OnceBlock g below h × ((m : ℕ) → (step_writes k m && block_reaches g h m) ≡ false)
+  Once g below (try k hang h) = OnceStep below k × OnceBlock g below h
+      × ((m : ℕ) → (step_writes k m && block_reaches g h m) ≡ false)
   Once g below (if_else hang e a b) = OnceBlock g below a × OnceBlock g below b
   Once g below (try_then k hang a b) =
       OnceStep below k × OnceBlock g below a × OnceBlock g below b
-      × ((m : ℕ) → (step_reaches g k m && block_reaches g a m) ≡ false) × ((m : ℕ) → (step_writes k m && block_reaches g b m) ≡ false)
+      × ((m : ℕ) → (step_reaches g k m && block_reaches g a m) ≡ false)
+      × ((m : ℕ) → (step_writes k m && block_reaches g b m) ≡ false)
   Once g below (case_of hang e arms) = OnceArms g below arms
 
   pub OnceArms : Group → (below : Type 0) → Arms → Type 0
@@ -85,7 +87,8 @@ abbrev mutual
 
   pub OnceBlock : Group → (below : Type 0) → Block → Type 0
   OnceBlock g below end_block = Unit {0}
-  OnceBlock g below (command_then c cs) = Once g below c × OnceBlock g below cs × ((m : ℕ) → (reaches g c m && block_reaches g cs m) ≡ false)
+  OnceBlock g below (command_then c cs) = Once g below c × OnceBlock g below cs
+      × ((m : ℕ) → (reaches g c m && block_reaches g cs m) ≡ false)
 
 -- So it is in the bodies of these states, and in all bodies that they may fall into. No path comes to any other.
 abbrev mutual

@@ -1,4 +1,5 @@
--- The definitions of programs and their labelled meaning that proofs of other crates name, each from the file in which it stands. Declares nothing.
+-- The definitions of programs and their labelled meaning that proofs of other crates name, each from the file in which
+-- it stands. Declares nothing.
 pub use Rattle.sap_meaning.specs.Agree.{active_path, ActiveState, Alike, High, InputsAgree, Low, PartsAlike, path_from, PathsRelated, RefusalsAgree}
 pub use Rattle.sap_meaning.specs.Agree.{Relation, seen, SlotsAlike, StatesAgree, StreamsAgree}
 pub use Rattle.sap_meaning.specs.Checks.{child_level, child_opens, entry, guard, Home, opens, site_of, test}

@@ -186,6 +186,6 @@ pub record Program : Type 0 where
   pub states : Group
   pub hang : List Bool
 
--- what a list of tests holds of
+-- What a list of tests holds of.
 abbrev pub listed : List Bool → ℕ → Bool
 listed hang x = get_or hang x false

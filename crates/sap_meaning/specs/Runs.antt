@@ -6,7 +6,7 @@ use Rattle.sap_meaning.specs.Checks.{Home}
 use Rattle.sap_meaning.specs.Touches.{touches}
 use Rattle.sap_meaning.specs.Does.{attempt, attempt_then, select, branch, choose_arm}
 
--- what a step with no handler raises: for a goto the state in whose body it stands, if dynamic
+-- What a step with no handler raises: for a goto the state in whose body it stands, if dynamic.
 abbrev pub listed_alone : World → Home → Step → ℕ → Bool
 listed_alone w at (assign site y e) x = false
 listed_alone w at (write site m i e) x = false
@@ -20,13 +20,16 @@ unfoldable mutual
   pub run : World → Home → (ℕ → ℕ → Store → After) → Command → ℕ → Store → After
   run w at enter (lone k) = attempt w at enter k (listed_alone w at k) (λ pc s. stay s)
   run w at enter (try k hang h) = attempt w at enter k (listed hang) (run_block w at enter h)
-  run w at enter (if_else hang e a b) = select w e (listed hang) (branch (run_block w at enter a) (run_block w at enter b))
-  run w at enter (try_then k hang a b) = attempt_then w at enter k (listed hang) (run_block w at enter a) (run_block w at enter b)
+  run w at enter (if_else hang e a b) = select w e (listed hang)
+      (branch (run_block w at enter a) (run_block w at enter b))
+  run w at enter (try_then k hang a b) = attempt_then w at enter k (listed hang)
+      (run_block w at enter a) (run_block w at enter b)
   run w at enter (case_of hang e arms) = select w e (listed hang) (run_arms w at enter arms)
 
   pub run_arms : World → Home → (ℕ → ℕ → Store → After) → Arms → ℕ → ℕ → Store → After
   run_arms w at enter (last_arm b) = λ n. run_block w at enter b
-  run_arms w at enter (and_arm constants b arms) = choose_arm constants (run_block w at enter b) (run_arms w at enter arms)
+  run_arms w at enter (and_arm constants b arms) =
+      choose_arm constants (run_block w at enter b) (run_arms w at enter arms)
 
   pub run_block : World → Home → (ℕ → ℕ → Store → After) → Block → ℕ → Store → After
   run_block w at enter end_block pc s = stay s
@@ -35,7 +38,8 @@ unfoldable mutual
 -- The same as `does_state`, with these lists.
 unfoldable mutual
   pub run_state : World → State → (parent : ℕ) → ℕ → Store → After
-  run_state w (state_node s b g) parent pc st = run_block w (record { state = s; parent = parent; children = g }) (run_child w g s) b pc st
+  run_state w (state_node s b g) parent pc st =
+      run_block w (record { state = s; parent = parent; children = g }) (run_child w g s) b pc st
 
   pub run_child : World → Group → (parent n : ℕ) → ℕ → Store → After
   run_child w no_node parent n pc st = stay st

@@ -1,11 +1,12 @@
--- The check sites of a program, in the order of the text. One walk finds them; their numbers, and what else is told of them, are maps of its list.
+-- The check sites of a program, in the order of the text. One walk finds them; their numbers, and what else is told of
+-- them, are maps of its list.
 use Rattle.std.specs.Prelude.{◌≡◌, ℕ, ◌≤◌, zero, suc, Bool, true, false, not, ◌||◌, List, [], ◌∷◌, ◌++◌, ◌⊎◌, map, if◌then◌else◌}
 use Rattle.sap_meaning.specs.Program.{World, Program, is_dynamic, Step, assign, write, retag, retag_cell, go_to, fall_to_child, Command, Arms, Block, State, state_node, Group, no_node, and_node}
 use Rattle.sap_meaning.specs.Walks.{gathered, gathered_in_arms, gathered_in_block, gathered_from, gathered_from_group}
 use Rattle.sap_meaning.specs.Store.{Refusal}
 use Rattle.sap_meaning.specs.Checks.{site_of}
 
--- one of the states of a group is enforced
+-- One of the states of a group is enforced.
 abbrev pub some_enforced : World → Group → Bool
 some_enforced w no_node = false
 some_enforced w (and_node (state_node c b k) g) = not (is_dynamic w c) || some_enforced w g
@@ -20,7 +21,7 @@ is_site w s g (retag_cell site m j n) = true
 is_site w s g (go_to site target) = not (is_dynamic w s) || not (is_dynamic w target)
 is_site w s g (fall_to_child site hang) = some_enforced w g
 
--- a step, and the state in whose body it stands
+-- A step, and the state in whose body it stands.
 pub record PlacedStep : Type 0 where
   pub state : ℕ
   pub step : Step
@@ -41,7 +42,7 @@ arms_sites w s g arms = gathered_in_arms [] ◌++◌ (step_sites w s g) arms
 abbrev pub block_sites : World → (s : ℕ) → (g : Group) → Block → List PlacedStep
 block_sites w s g b = gathered_in_block [] ◌++◌ (step_sites w s g) b
 
--- those in a state's body
+-- Those in a state's body.
 abbrev pub body_sites : World → State → List PlacedStep
 body_sites w (state_node s b g) = block_sites w s g b
 
@@ -57,7 +58,7 @@ group_sites w g = gathered_from_group [] ◌++◌ (body_sites w) g
 abbrev pub placed_sites : Program → List PlacedStep
 placed_sites p = group_sites p.world p.states
 
--- the numbers of check sites
+-- The numbers of check sites.
 abbrev pub site_numbers : List PlacedStep → List ℕ
 site_numbers ks = map (λ (k : PlacedStep). site_of k.step) ks
 
@@ -75,7 +76,7 @@ Sublist [] ys = Unit {0}
 Sublist (x ∷ xs) [] = ⊥
 Sublist (x ∷ xs) (y ∷ ys) = ((x ≡ y) × Sublist xs ys) ⊎ Sublist (x ∷ xs) ys
 
--- numbers from n on, each above the one before
+-- Numbers from n on, each above the one before.
 abbrev pub RisesFrom : ℕ → List ℕ → Type 0
 RisesFrom n [] = Unit {0}
 RisesFrom n (x ∷ xs) = (n ≤ x) × RisesFrom (suc x) xs

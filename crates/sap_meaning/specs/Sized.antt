@@ -10,11 +10,11 @@ use Rattle.sap_meaning.specs.Expressions.{width_of}
 abbrev pub depth : World → ℕ → ℕ
 depth w m = depth_of (entity w m).kind
 
--- an index has as many bits as its memory's depth asks for
+-- An index has as many bits as its memory's depth asks for.
 abbrev pub Indexes : World → ℕ → Term ℕ → Type 0
 Indexes w m i = 2 ^ width_of w i ≡ depth w m
 
--- so it is with each index in a term
+-- So it is with each index in a term.
 abbrev pub Indexed : World → Term ℕ → Type 0
 Indexed w e = EveryRead (λ x. Unit {0}) (Indexes w) e
 
@@ -35,7 +35,7 @@ SizedStep w (retag_cell site m j n) = SizedTerm w j × Indexes w m j × SizedLev
 SizedStep w (go_to site target) = Unit {0}
 SizedStep w (fall_to_child site hang) = Unit {0}
 
--- numbers that a width can hold
+-- Numbers that a width can hold.
 abbrev pub AreWithin : (width : ℕ) → List ℕ → Type 0
 AreWithin u ns = AllByRecursion (λ n. n < 2 ^ u) ns
 

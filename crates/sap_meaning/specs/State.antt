@@ -25,7 +25,8 @@ first w = record { number = first_number w; level = first_level w; child = λ p.
 -- What every state keeps: each enforced level is at or above its authority, and the current child of whatever has
 -- children is one of them.
 pub record Holds (w : World) (s : Store) : Type 0 where
-  pub above : (z : Slot) → held w z ≡ true → is_dynamic w (owner z) ≡ false → w.order.le (authority w (owner z)) (level w z s) ≡ true
+  pub above : (z : Slot) → held w z ≡ true → is_dynamic w (owner z) ≡ false
+      → w.order.le (authority w (owner z)) (level w z s) ≡ true
   pub seated : (p : ℕ) → 0 < children w p → s.child p < children w p
 
 -- Between cycles the two parts of each memory are equal.

@@ -13,7 +13,7 @@ step_assigns (retag_cell site m j n) x = false
 step_assigns (go_to site target) x = false
 step_assigns (fall_to_child site hang) x = false
 
--- a command, or one inside it, assigns x
+-- A command, or one inside it, assigns x.
 abbrev pub assigns : Command → ℕ → Bool
 assigns c x = some (λ k. step_assigns k x) c
 
@@ -25,7 +25,7 @@ arms_assign arms x = some_in_arms (λ k. step_assigns k x) arms
 abbrev pub block_assigns : Block → ℕ → Bool
 block_assigns b x = some_in_block (λ k. step_assigns k x) b
 
--- the body of a state, or of one below it, assigns x
+-- The body of a state, or of one below it, assigns x.
 abbrev pub state_assigns : State → ℕ → Bool
 state_assigns t x = some_body (λ b. block_assigns b x) t
 
@@ -33,7 +33,7 @@ state_assigns t x = some_body (λ b. block_assigns b x) t
 abbrev pub group_assigns : Group → ℕ → Bool
 group_assigns g x = some_body_in (λ b. block_assigns b x) g
 
--- a step gives the register or state x a level
+-- A step gives the register or state x a level.
 abbrev pub step_retags : Step → ℕ → Bool
 step_retags (assign site y e) x = false
 step_retags (write site m i e) x = false

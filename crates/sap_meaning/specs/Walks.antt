@@ -4,7 +4,7 @@ use Rattle.std.specs.Prelude.{ℕ, Bool, false, ◌||◌, List, [], ◌∷◌}
 use Rattle.sap_maps.specs.Term.{Term}
 use Rattle.sap_meaning.specs.Program.{LevelTerm, fixed, of, at_place, both, Step, Command, lone, try, if_else, try_then, case_of, Arms, last_arm, and_arm, Block, end_block, command_then, State, state_node, Group, no_node, and_node}
 
--- P holds of each written level, Q of each expression whose level is taken
+-- P holds of each written level, Q of each expression whose level is taken.
 module _ (P : ℕ → Type 0) (Q : Term ℕ → Type 0) where
   -- P holds of each fixed level of a level's term, and Q of each term in it.
   abbrev pub EveryLevel : LevelTerm → Type 0
@@ -13,7 +13,7 @@ module _ (P : ℕ → Type 0) (Q : Term ℕ → Type 0) where
   EveryLevel (at_place e) = Q e
   EveryLevel (both a b) = EveryLevel a × EveryLevel b
 
--- P holds of a command and of each command inside it
+-- P holds of a command and of each command inside it.
 module _ (P : Command → Type 0) where
   -- P holds of each command within a command, itself included where it has a step.
   abbrev mutual
@@ -32,7 +32,7 @@ module _ (P : Command → Type 0) where
     EveryInBlock end_block = Unit {0}
     EveryInBlock (command_then c cs) = Every c × EveryInBlock cs
 
--- P holds of a command's step, Q of its condition or number
+-- P holds of a command's step, Q of its condition or number.
 abbrev pub Asks : (P : Step → Type 0) → (Q : Term ℕ → Type 0) → Command → Type 0
 Asks P Q (lone k) = P k
 Asks P Q (try k hang h) = P k
@@ -113,7 +113,7 @@ some_in_arms p arms = gathered_in_arms false ◌||◌ p arms
 abbrev pub some_in_block : (p : Step → Bool) → Block → Bool
 some_in_block p b = gathered_in_block false ◌||◌ p b
 
--- the constants of each arm
+-- The constants of each arm.
 abbrev pub arm_constants : Arms → List (List ℕ)
 arm_constants (last_arm b) = []
 arm_constants (and_arm constants b arms) = constants ∷ arm_constants arms
@@ -122,7 +122,7 @@ arm_constants (and_arm constants b arms) = constants ∷ arm_constants arms
 abbrev pub body_of : State → Block
 body_of (state_node s b g) = b
 
--- P holds of the body of a state, and of that of each state below it
+-- P holds of the body of a state, and of that of each state below it.
 module _ (P : Block → Type 0) where
   -- P holds of the body of a state and of all states below it.
   abbrev mutual
@@ -144,7 +144,7 @@ module _ {A : Type 0} (none : A) (join : A → A → A) (f : State → A) where
     gathered_from_group no_node = none
     gathered_from_group (and_node t g) = join (gathered_from t) (gathered_from_group g)
 
--- p holds of the body of a state, or of one below it
+-- `p` holds of the body of a state, or of one below it.
 abbrev pub some_body : (p : Block → Bool) → State → Bool
 some_body p t = gathered_from false ◌||◌ (λ a. p (body_of a)) t
 

@@ -15,7 +15,8 @@ pub use Rattle.sap_names.specs.declared.entity.Entity.{Entity}
 -- The entity that a declaration declares.
 abbrev pub entity_of : Decl → Entity
 entity_of (Input place name width) = record { name = name; what = what.Input width.value; dynamic = true }
-entity_of (Register place name width kind start) = record { name = name; what = what.Register width.value; dynamic = is_dynamic_kind kind }
+entity_of (Register place name width kind start) =
+    record { name = name; what = what.Register width.value; dynamic = is_dynamic_kind kind }
 entity_of (Memory place name width depth kind) =
     record { name = name; what = what.Memory width.value depth.value; dynamic = is_dynamic_kind kind }
 
@@ -27,7 +28,8 @@ declared_in ds = map entity_of ds
 abbrev mutual
   pub state_entities : StateTree → List Entity
   state_entities (state_node place name kind body children) =
-      let e : Entity = record { name = name; what = what.State; dynamic = is_dynamic_kind kind } in e ∷ group_entities children
+      let e : Entity = record { name = name; what = what.State; dynamic = is_dynamic_kind kind } in
+      e ∷ group_entities children
 
   pub group_entities : StateList → List Entity
   group_entities no_state = []
@@ -75,14 +77,14 @@ kind_of_declared (what.Register width) = kinds.Register
 kind_of_declared (what.Memory width depth) = kinds.Memory
 kind_of_declared what.State = kinds.State
 
--- the declared width, 0 for a state
+-- The declared width, 0 for a state.
 abbrev pub declared_width : Declared → ℕ
 declared_width (what.Input width) = width
 declared_width (what.Register width) = width
 declared_width (what.Memory width depth) = width
 declared_width what.State = 0
 
--- an entity that is no state has a width from 1 to 64
+-- An entity that is no state has a width from 1 to 64.
 abbrev pub HasWidth : Declared → Type 0
 HasWidth (what.Input width) = (1 ≤ width) × (width ≤ 64)
 HasWidth (what.Register width) = (1 ≤ width) × (width ≤ 64)

@@ -40,25 +40,27 @@ low column = Enforced (mention (at column) (codes "low")) None
 
 -- One state with this body.
 abbrev pub body : CommandList → StateList
-body cs = and_state (state_node (at 1) (mention (at 1) (codes "S")) (low 1) (command_block cs (at 90)) no_state) no_state
+body cs = and_state (state_node (at 1) (mention (at 1) (codes "S")) (low 1) (command_block cs (at 90))
+    no_state) no_state
 
 -- One state with one command.
 abbrev pub only : Command → StateList
 only c = body (and_command c no_command)
 
--- reg x : 8 dynamic = START; and a state
+-- Reg x : 8 dynamic = START; and a state.
 abbrev pub starting : (start : ℕ) → DesignTree
 starting start = record {
   version = One;
-  declarations = Register (at 1) (mention (at 5) (codes "x")) (numeral_at (at 9) 8) (Dynamic (at 11)) (Some (numeral_at (at 21) start)) ∷ [];
+  declarations = Register (at 1) (mention (at 5) (codes "x")) (numeral_at (at 9) 8) (Dynamic (at 11))
+      (Some (numeral_at (at 21) start)) ∷ [];
   states = only (lone (go_to (at 30) (mention (at 35) (codes "S"))));
 }
 
--- reg x : 8 dynamic = 256;
+-- The text `reg x : 8 dynamic = 256;`.
 abbrev pub LargeStart : Type 0
 LargeStart = design_name_faults levels below (starting 256) ≡ fault E8 21 ∷ []
 
--- reg x : 8 dynamic; .. x := 99'd300;
+-- The text `reg x : 8 dynamic; .. x := 99'd300;`.
 abbrev pub WideNumber : Type 0
 WideNumber = design_name_faults levels below (record {
   version = One;
@@ -66,15 +68,18 @@ WideNumber = design_name_faults levels below (record {
   states = only (lone (assign (mention (at 43) (codes "x")) (sized_literal (spot (at 48)) 99 300)));
 }) ≡ fault E7 48 ∷ []
 
--- tag(zz), tag((zz)) and tag(1 + zz)
+-- Tag(zz), tag((zz)) and tag(1 + zz).
 abbrev pub UnknownPlain : Type 0
-UnknownPlain = tag_faults levels nothing (tag_at (at 1) (variable (spot (at 5)) (codes "zz"))) ≡ fault E7 5 ∷ fault E4 5 ∷ []
+UnknownPlain = tag_faults levels nothing (tag_at (at 1) (variable (spot (at 5)) (codes "zz")))
+    ≡ fault E7 5 ∷ fault E4 5 ∷ []
 
 -- An unknown name in parentheses, of which no width is asked, is E7 at the parenthesis and E4 at the name.
 abbrev pub UnknownInside : Type 0
-UnknownInside = tag_faults levels nothing (tag_at (at 1) (variable (inside 5 6) (codes "zz"))) ≡ fault E7 5 ∷ fault E4 6 ∷ []
+UnknownInside = tag_faults levels nothing (tag_at (at 1) (variable (inside 5 6) (codes "zz")))
+    ≡ fault E7 5 ∷ fault E4 6 ∷ []
 
 -- An unknown operand after a number is E7 at the number and E4 at its own place.
 abbrev pub UnknownBehind : Type 0
-UnknownBehind = tag_faults levels nothing (tag_at (at 1) (binary_of (inside 5 7) Add (literal (spot (at 5)) 1) (variable (spot (at 9)) (codes "zz"))))
+UnknownBehind = tag_faults levels nothing
+    (tag_at (at 1) (binary_of (inside 5 7) Add (literal (spot (at 5)) 1) (variable (spot (at 9)) (codes "zz"))))
     ≡ fault E7 5 ∷ fault E7 5 ∷ fault E7 9 ∷ fault E4 9 ∷ []

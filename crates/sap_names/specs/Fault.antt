@@ -23,7 +23,7 @@ number E15 = 15
 number E16 = 16
 number E17 = 17
 
--- by place, then by code
+-- By place, then by code.
 abbrev pub Before : Fault → Fault → Type 0
 Before a b = (a.place.line < b.place.line)
     ⊎ ((a.place.line ≡ b.place.line) × (a.place.column < b.place.column)
@@ -33,6 +33,6 @@ Before a b = (a.place.line < b.place.line)
 abbrev pub BeforeAll : Fault → List Fault → Type 0
 BeforeAll a fs = best.BeforeAll Before a fs
 
--- the first of the faults that stand; none where none stands
+-- The first of the faults that stand; none where none stands.
 abbrev pub First : Option Fault → List Fault → Type 0
 First o fs = best.First Before o fs

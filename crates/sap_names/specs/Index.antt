@@ -6,7 +6,7 @@ use Rattle.std.specs.Str.{bytes_eq}
 use Rattle.sap_names.specs.declared.entity.Entity.{Entity}
 use Rattle.sap_names.specs.Entities.{number_of}
 
--- the number under a name
+-- The number under a name.
 abbrev pub under : List (Vec ℕ Global × ℕ) → List ℕ → Option ℕ
 under entries name = lookup (λ (k : Vec ℕ Global). bytes_eq name k.items) entries
 

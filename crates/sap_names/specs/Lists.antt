@@ -22,11 +22,12 @@ commands_faults levels what cs = faults.commands_faults levels what (commands_of
 unfoldable pub constants_faults : Lookup → (asked : Option ℕ) → List Expr → List Fault
 constants_faults what asked es = faults.constants_faults what asked (expressions_of es)
 
--- the arms of a `case`, without the block after `else`
+-- The arms of a `case`, without the block after `else`.
 unfoldable pub arms_faults : List (List ℕ) → Lookup → (asked : Option ℕ) → List Arm → List Fault
 arms_faults levels what asked [] = []
 arms_faults levels what asked (arm ∷ arms) =
-    faults.constants_faults what asked (constants_of arm) ++ faults.block_faults levels what (arm_block_of arm) ++ arms_faults levels what asked arms
+    faults.constants_faults what asked (constants_of arm)
+    ++ faults.block_faults levels what (arm_block_of arm) ++ arms_faults levels what asked arms
 
 -- The faults of names and widths in a list of states.
 unfoldable pub states_faults : List (List ℕ) → (ℕ → ℕ → Bool) → Lookup → List State → List Fault
@@ -36,7 +37,7 @@ states_faults levels le what ss = faults.states_faults levels le what (states_of
 unfoldable pub states_entities : List State → List Entity
 states_entities ss = group_entities (states_of ss)
 
--- whether the first entity of a name is another than the one with this number
+-- Whether the first entity of a name is another than the one with this number.
 abbrev pub differs : Option ℕ → ℕ → Bool
 differs None number = true
 differs (Some first) number = not (eqb first number)

@@ -172,10 +172,12 @@ abbrev mutual
   command_faults levels what (lone k) = simple_faults levels what k
   command_faults levels what (try k place handler) = simple_faults levels what k ++ block_faults levels what handler
   command_faults levels what (if_else place condition then_block else_block) =
-      expression_faults what condition (Some 1) ++ block_faults levels what then_block ++ else_faults levels what else_block
+      expression_faults what condition (Some 1) ++ block_faults levels what then_block
+      ++ else_faults levels what else_block
   command_faults levels what (try_then k place accepted refused) =
       simple_faults levels what k ++ block_faults levels what accepted ++ block_faults levels what refused
-  command_faults levels what (case_of place e arms) = expression_faults what e None ++ arms_faults levels what (own what e) arms
+  command_faults levels what (case_of place e arms) =
+      expression_faults what e None ++ arms_faults levels what (own what e) arms
 
   pub block_faults : List (List ℕ) → Lookup → CommandBlock → List Fault
   block_faults levels what (command_block cs after) = commands_faults levels what cs

@@ -1,4 +1,5 @@
--- The definitions of a design's names and widths that proofs of other crates name, each from the file in which it stands. Declares nothing.
+-- The definitions of a design's names and widths that proofs of other crates name, each from the file in which it
+-- stands. Declares nothing.
 pub use Rattle.sap_names.specs.Best.{best_of}
 pub use Rattle.sap_names.specs.Entities.{declared_in, entities_of, entity_of, find, group_entities, Lookup, number_of, state_entities, what_is}
 pub use Rattle.sap_names.specs.Fault.{Before, BeforeAll, First, StandsIn}

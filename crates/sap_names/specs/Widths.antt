@@ -150,11 +150,11 @@ asked_right Comparison whole left right = else_of left right
 abbrev pub asked_one : UnaryOperator → Option ℕ → Option ℕ
 asked_one operator whole = if is_reduction operator then None else whole
 
--- `is_sound` says whether there is a width.
+-- There is a width.
 abbrev pub is_sound : Option ℕ → Bool
 is_sound w = is_some w
 
--- `all_sound` says whether all parts have a width of their own.
+-- All parts have a width of their own.
 abbrev pub all_sound : Lookup → Expressions → Bool
 all_sound what no_part = true
 all_sound what (and_part e parts) = is_sound (own what e) && all_sound what parts

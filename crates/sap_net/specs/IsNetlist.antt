@@ -46,7 +46,7 @@ shapes n = map (λ x. (x.name, (x.width, x.depth))) n.memories
 abbrev pub width_of : Net → Name → ℕ
 width_of n x = unwrap_or (find (readable n) x) 0
 
--- what a port shows is there
+-- What a port shows is there.
 abbrev pub PortShows : Net → PortKind → Name → Type 0
 PortShows n kind.Input x = is_among x (input_names n) ≡ true
 PortShows n kind.Register x = is_among x (register_names n) ≡ true
@@ -66,7 +66,8 @@ pub record IsNetlist (n : Net) : Type 0 where
   pub named : AllByRecursion (λ x. is_name x ≡ true) n.names
   pub declared_once : AreDistinct n.names
   -- a name is declared exactly where something has it
-  pub declared : (x : Name) → is_among x n.names ≡ is_among x (input_names n ++ wire_names n ++ register_names n ++ memory_names n)
+  pub declared : (x : Name) → is_among x n.names
+      ≡ is_among x (input_names n ++ wire_names n ++ register_names n ++ memory_names n)
   pub registers_in_order : filter (λ x. is_among x (register_names n)) n.names ≡ register_names n
   pub memories_in_order : filter (λ x. is_among x (memory_names n)) n.names ≡ memory_names n
   -- ports

@@ -16,11 +16,11 @@ pub record AreSame (n : Net) (v w : Valuation) : Type 0 where
 abbrev pub AreSameRuns : Net → List Valuation → List Valuation → Type 0
 AreSameRuns n = AllZip (AreSame n)
 
--- a run on each list of inputs that fit
+-- A run on each list of inputs that fit.
 abbrev pub SomeRun : Net → Type 0
 SomeRun n = (xss : List (List ℕ)) → AllFit n.inputs xss → (vs : List Valuation) × IsRun n xss vs
 
--- and no other
+-- And no other.
 abbrev pub OneRun : Net → Type 0
 OneRun n = (xss : List (List ℕ)) (vs ws : List Valuation) → IsRun n xss vs → IsRun n xss ws → AreSameRuns n vs ws
 
@@ -36,16 +36,18 @@ SameBefore n None (Some q) = ⊥
 SameBefore n (Some p) None = ⊥
 SameBefore n (Some p) (Some q) = AreSame n p q
 
--- a cycle after each one whose numbers are within their widths, and a first one
+-- A cycle after each one whose numbers are within their widths, and a first one.
 abbrev pub SomeCycle : Net → Type 0
 SomeCycle n =
-    (before : Option Valuation) (xs : List ℕ) → WithinBefore n before → InputsFit n.inputs xs → (v : Valuation) × IsCycle n before xs v
+    (before : Option Valuation) (xs : List ℕ) → WithinBefore n before → InputsFit n.inputs xs
+    → (v : Valuation) × IsCycle n before xs v
 
--- and no other
+-- And no other.
 abbrev pub OneCycle : Net → Type 0
 OneCycle n =
-    (p q : Option Valuation) (xs : List ℕ) (v w : Valuation) → SameBefore n p q → IsCycle n p xs v → IsCycle n q xs w → AreSame n v w
+    (p q : Option Valuation) (xs : List ℕ) (v w : Valuation) → SameBefore n p q → IsCycle n p xs v
+    → IsCycle n q xs w → AreSame n v w
 
--- the first cycle begins with the numbers before it
+-- The first cycle begins with the numbers before it.
 abbrev pub BeginsWithInitial : Type 0
 BeginsWithInitial = (n : Net) → IsNetlist n → Begins n None (initial n)

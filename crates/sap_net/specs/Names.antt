@@ -5,7 +5,7 @@ use Rattle.std.specs.Str.{byte}
 pub use Rattle.sap_text.specs.Names.{is_initial, is_inner, is_word, is_among}
 use Rattle.sap_maps.specs.Maps.{Name}
 
--- the keywords of the module subset
+-- The keywords of the module subset.
 abbrev pub keywords : List (List ℕ)
 keywords =
     codes "module"
@@ -33,7 +33,7 @@ is_keyword name = is_among name keywords
 unfoldable pub is_name : List ℕ → Bool
 is_name name = is_word name && not (is_keyword name)
 
--- no name stands on the list twice
+-- No name stands on the list twice.
 abbrev pub AreDistinct : List Name → Type 0
 AreDistinct [] = Unit {0}
 AreDistinct (x ∷ xs) = (is_among x xs ≡ false) × AreDistinct xs

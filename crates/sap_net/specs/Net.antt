@@ -20,7 +20,7 @@ pub record Net : Type 0 where
   pub registers : List Register
   pub memories : List Memory
 
--- the netlist of its parts
+-- The netlist of its parts.
 abbrev pub net_of : Parts → Net
 net_of p =
     record {

@@ -1,4 +1,5 @@
--- The names of a compiled module, by what they name; and of which x a name of any module is the number or the code of the level.
+-- The names of a compiled module, by what they name; and of which x a name of any module is the number or the code of
+-- the level.
 use Rattle.std.specs.Prelude.{ℕ, Bool, false, ◌==◌, ◌&&◌, [], ◌∷◌, ◌++◌, codes, Option, Some, None, if◌then◌else◌}
 use Rattle.std.specs.Fmt.{decimal}
 use Rattle.std.specs.Str.{byte}
@@ -32,27 +33,27 @@ refused_level_name k = codes "l_" ++ decimal k
 abbrev pub top_name : Name
 top_name = codes "top"
 
--- x, where the name is this letter, `_` and x, a byte or more
+-- `x`, where the name is this letter, `_` and x, a byte or more.
 abbrev pub behind : (letter : ℕ) → Name → Option Name
 behind letter [] = None
 behind letter (a ∷ []) = None
 behind letter (a ∷ (b ∷ [])) = None
 behind letter (a ∷ (b ∷ (c ∷ x))) = if a == letter && b == byte "_" then Some (c ∷ x) else None
 
--- x of `v_x`
+-- `x` of `v_x`.
 abbrev pub value_of : Name → Option Name
 value_of n = behind (byte "v") n
 
--- x of `t_x`
+-- `x` of `t_x`.
 abbrev pub tag_of : Name → Option Name
 tag_of n = behind (byte "t") n
 
--- there is such an x, and it passes a test
+-- There is such an x, and it passes a test.
 abbrev pub passes : (Name → Bool) → Option Name → Bool
 passes test None = false
 passes test (Some x) = test x
 
--- there is a number, and it is this one
+-- There is a number, and it is this one.
 abbrev pub is_number : ℕ → Option ℕ → Bool
 is_number n None = false
 is_number n (Some k) = k == n

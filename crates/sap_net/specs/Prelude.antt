@@ -1,4 +1,5 @@
--- The definitions of netlists that proofs of other crates name, each from the file in which it stands. Declares nothing.
+-- The definitions of netlists that proofs of other crates name, each from the file in which it stands. Declares
+-- nothing.
 pub use Rattle.sap_net.specs.IsNetlist.{first_readable, input_names, is_input, IsNetlist, memory_names, names_of, PortShows, readable, register_names}
 pub use Rattle.sap_net.specs.IsNetlist.{shapes, width_of, wire_names}
 pub use Rattle.sap_net.specs.Laws.{AreSame, AreSameRuns, OneRun, SomeRun}

@@ -22,28 +22,31 @@ abbrev pub IsOperand : (readable : Scope) (w : ℕ) → Operand → Type 0
 IsOperand readable w (Named x) = find readable x ≡ Some w
 IsOperand readable w (Constant u n) = (u ≡ w) × (n < 2 ^ w)
 
--- operands whose widths have the sum w
+-- Operands whose widths have the sum w.
 abbrev pub AreOperands : (readable : Scope) (w : ℕ) → List Operand → Type 0
 AreOperands readable w [] = w ≡ 0
 AreOperands readable w (o ∷ os) =
     (u : ℕ) × (r : ℕ) × IsWidth u × IsOperand readable u o × AreOperands readable r os × (w ≡ u + r)
 
--- the right side of a wire of width w
+-- The right side of a wire of width w.
 abbrev pub IsRight : (memories : Shapes) (readable : Scope) (w : ℕ) → Right → Type 0
 IsRight memories readable w (Copy a) = IsOperand readable w a
 IsRight memories readable w (One op a) = (u : ℕ) × IsWidth u × IsOperand readable u a × (w ≡ width1 op u)
 IsRight memories readable w (Two op a b) =
-    (u : ℕ) × (t : ℕ) × IsWidth u × IsWidth t × IsOperand readable u a × IsOperand readable t b × CountFits op u t × (w ≡ width2 op u)
+    (u : ℕ) × (t : ℕ) × IsWidth u × IsWidth t × IsOperand readable u a × IsOperand readable t b
+    × CountFits op u t × (w ≡ width2 op u)
 IsRight memories readable w (Choose c a b) = IsOperand readable 1 c × IsOperand readable w a × IsOperand readable w b
 IsRight memories readable w (Concat os) = (2 ≤ length os) × AreOperands readable w os
-IsRight memories readable w (Slice x hi lo) = (u : ℕ) × IsWidth u × (find readable x ≡ Some u) × (lo ≤ hi) × (hi < u) × (w ≡ hi + 1 - lo)
+IsRight memories readable w (Slice x hi lo) = (u : ℕ) × IsWidth u × (find readable x ≡ Some u)
+    × (lo ≤ hi) × (hi < u) × (w ≡ hi + 1 - lo)
 IsRight memories readable w (Cell m i) = (b : ℕ) × (find memories m ≡ Some (w, 2 ^ b)) × IsOperand readable b i
 
 -- Each wire has a name of its own, and reads what was there before it.
 abbrev pub AreWires : (memories : Shapes) (readable : Scope) → List Wire → Type 0
 AreWires memories readable [] = Unit {0}
 AreWires memories readable (w ∷ ws) =
-    IsWidth w.width × (find readable w.name ≡ None) × (find memories w.name ≡ None) × IsRight memories readable w.width w.right
+    IsWidth w.width × (find readable w.name ≡ None) × (find memories w.name ≡ None)
+    × IsRight memories readable w.width w.right
     × AreWires memories ((w.name, w.width) ∷ readable) ws
 
 -- `readable_after` is what can be read behind some wires.

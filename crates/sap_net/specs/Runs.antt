@@ -22,14 +22,16 @@ pub record IsValuation (n : Net) (v : Valuation) : Type 0 where
 
 -- `written` is the number of cell `i` of a memory after the edge.
 abbrev pub written : Valuation → Memory → (i : ℕ) → ℕ
-written v m i = if operand_value v m.enable == 1 && operand_value v m.index == i then operand_value v m.value else v.cell m.name i
+written v m i = if operand_value v m.enable == 1 && operand_value v m.index == i
+    then operand_value v m.value else v.cell m.name i
 
 -- What a cycle begins with. A memory's cells are counted on without end; those from its depth on keep their first
 -- number and are never read. Registers and memories have their first numbers in the first cycle; in each later one a
 -- register has its right side in the cycle before, and a memory what was written there.
 abbrev pub Begins : Net → (before : Option Valuation) → Valuation → Type 0
 Begins n None v =
-    AllByRecursion (λ r. v.value r.name ≡ r.start) n.registers × AllByRecursion (λ m. (i : ℕ) → v.cell m.name i ≡ m.start) n.memories
+    AllByRecursion (λ r. v.value r.name ≡ r.start) n.registers
+    × AllByRecursion (λ m. (i : ℕ) → v.cell m.name i ≡ m.start) n.memories
 Begins n (Some p) v =
     AllByRecursion (λ r. v.value r.name ≡ operand_value p r.next) n.registers
     × AllByRecursion (λ m. (i : ℕ) → v.cell m.name i ≡ written p m i) n.memories
@@ -46,7 +48,7 @@ initial_cell n x = unwrap_or (find (map (λ m. (m.name, m.start)) n.memories) x)
 abbrev pub initial : Net → Valuation
 initial n = record { value = initial_number n; cell = λ x i. initial_cell n x }
 
--- one number for each input, within its width
+-- One number for each input, within its width.
 abbrev pub InputsFit : List Input → List ℕ → Type 0
 InputsFit = AllZip (λ (i : Input) (x : ℕ). x < 2 ^ i.width)
 

@@ -1,4 +1,5 @@
--- Which x are shown of a module's registers, or of any names with their widths: each with a `v_x`, and a `t_x` of the width of tags.
+-- Which x are shown of a module's registers, or of any names with their widths: each with a `v_x`, and a `t_x` of the
+-- width of tags.
 use Rattle.std.specs.Prelude.{ℕ, Bool, true, false, List, [], ◌∷◌, ◌++◌, map, filter, Option, Some, None, if◌then◌else◌}
 use Rattle.sap_maps.specs.Maps.{Name}
 use Rattle.sap_maps.specs.Scope.{Scope, find}
@@ -15,15 +16,15 @@ is_register kind.Input = false
 is_register kind.Register = true
 is_register kind.Wire = false
 
--- the names of the `output reg` ports, in port order
+-- The names of the `output reg` ports, in port order.
 abbrev pub register_ports : List Port → List Name
 register_ports ps = map (λ p. p.name) (filter (λ p. is_register p.kind) ps)
 
--- and their widths
+-- And their widths.
 abbrev pub port_widths : Net → Scope
 port_widths n = map (λ x. (x, width_of n x)) (register_ports n.ports)
 
--- a `t_x` of the width of tags is there
+-- A `t_x` of the width of tags is there.
 abbrev pub has_tag : (tag : ℕ) → (widths : Scope) → Name → Bool
 has_tag tag widths x = is_number tag (find widths (tag_name x))
 
@@ -32,7 +33,7 @@ abbrev pub shown_by : (tag : ℕ) → (widths : Scope) → Option Name → List 
 shown_by tag widths None = []
 shown_by tag widths (Some x) = if has_tag tag widths x then x ∷ [] else []
 
--- each x with a `v_x` among some names that has such a `t_x`, in order
+-- Each x with a `v_x` among some names that has such a `t_x`, in order.
 abbrev pub shown_among : (tag : ℕ) → (widths : Scope) → List Name → List Name
 shown_among tag widths [] = []
 shown_among tag widths (p ∷ ps) = shown_by tag widths (value_of p) ++ shown_among tag widths ps

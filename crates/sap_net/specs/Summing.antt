@@ -1,4 +1,5 @@
--- An example: a netlist with an input, two wires that are ports, a register that sums the input, and a memory whose last cell takes the sum.
+-- An example: a netlist with an input, two wires that are ports, a register that sums the input, and a memory whose
+-- last cell takes the sum.
 use Rattle.std.specs.Prelude.{List, [], ◌∷◌, codes}
 use Rattle.sap_bits.specs.declared.Op2.TheVariants.{Add}
 use Rattle.sap_maps.specs.Maps.{Name}

@@ -44,10 +44,10 @@ abbrev pub Holds : (widths : Name → ℕ) → Valuation → List Wire → Type 
 Holds widths v [] = Unit {0}
 Holds widths v (w ∷ ws) = (v.value w.name ≡ right_value widths v w.right) × Holds widths v ws
 
--- `widths` has the widths with which names are declared
+-- `widths` has the widths with which names are declared.
 abbrev pub WidthsAre : Scope → (widths : Name → ℕ) → Type 0
 WidthsAre sc widths = (n : Name) (u : ℕ) → find sc n ≡ Some u → widths n ≡ u
 
--- each declared name has a number within its width
+-- Each declared name has a number within its width.
 abbrev pub ValuesBelow : Scope → Valuation → Type 0
 ValuesBelow sc v = (n : Name) (u : ℕ) → find sc n ≡ Some u → v.value n < 2 ^ u

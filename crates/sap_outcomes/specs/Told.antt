@@ -5,7 +5,8 @@ use Rattle.sap_rows.specs.declared.refusal.Why.TheVariants.{Says, Memory}
 
 -- The line that says how many rows a table has, and how many differ.
 abbrev pub counts_line : (table : List ℕ) → (rows differing : ℕ) → List ℕ
-counts_line table rows differing = table ++ codes ": " ++ decimal rows ++ codes " rows, " ++ decimal differing ++ codes " differ\n"
+counts_line table rows differing = table ++ codes ": " ++ decimal rows ++ codes " rows, "
+    ++ decimal differing ++ codes " differ\n"
 
 -- The line that says why a table is rejected, and where.
 abbrev pub refusal_line : (table : List ℕ) → (line : ℕ) → Why → List ℕ

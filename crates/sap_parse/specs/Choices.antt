@@ -42,7 +42,7 @@ primary_of (a.Word word) = word_primary word
 primary_of a.Name = p.Neither
 primary_of a.Nothing = p.Neither
 
--- what is a constant of a `case`
+-- What is a constant of a `case`.
 abbrev pub is_constant : Primary → Bool
 is_constant p.Number = true
 is_constant p.Sized = true

@@ -23,11 +23,11 @@ IsDesign ts d = Spells ts d None
 abbrev pub SpellsSome : List Token → Option (ℕ × Limit) → Type 0
 SpellsSome ts first = (d : DesignTree) × Spells ts d first
 
--- limits aside, no design begins with the tokens up to the first of those that are left, while one does with those before it; or, where none
--- are left, one begins with all tokens, which are no design
+-- Limits aside, no design begins with the tokens up to the first of those that are left, while one does with those
+-- before it; or, where none are left, one begins with all tokens, which are no design.
 abbrev pub IsUnexpected : List Token → List Token → Type 0
 IsUnexpected ts left = prefix.IsUnexpected SpellsSome ts left
 
--- the first of those that are left is the first token that breaks a limit, and this is the limit
+-- The first of those that are left is the first token that breaks a limit, and this is the limit.
 abbrev pub IsOver : List Token → List Token → Limit → Type 0
 IsOver ts left limit = prefix.IsOver SpellsSome ts left limit

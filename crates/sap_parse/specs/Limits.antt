@@ -66,9 +66,11 @@ breach_of_role c r.Input = above most_inputs (c.inputs + 1) l.Inputs
 breach_of_role c r.Register = above most_registers (c.registers + 1) l.Registers
 breach_of_role c r.Memory = above most_memories (c.memories + 1) l.Memories
 breach_of_role c (r.State depth) = above most_states (c.states + 1) l.States or_else above most_nesting depth l.Nesting
-breach_of_role c (r.Command depth) = above most_commands (c.commands + 1) l.Commands or_else above most_blocks depth l.Blocks
+breach_of_role c (r.Command depth) = above most_commands (c.commands + 1) l.Commands or_else above
+    most_blocks depth l.Blocks
 breach_of_role c r.Inner = above most_tokens (c.tokens + 1) l.Expression
-breach_of_role c r.Opening = above most_brackets (c.brackets + 1) l.Brackets or_else above most_tokens (c.tokens + 1) l.Expression
+breach_of_role c r.Opening = above most_brackets (c.brackets + 1) l.Brackets or_else above most_tokens
+    (c.tokens + 1) l.Expression
 breach_of_role c r.Closing = above most_tokens (c.tokens + 1) l.Expression
 
 -- `breach` is the limit that this token breaks after tokens of these counts, the first of several in the order of the

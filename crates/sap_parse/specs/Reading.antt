@@ -16,7 +16,7 @@ use Rattle.sap_walk.specs.Limits.{Past, passed, unless_broken}
 use Rattle.sap_walk.specs.Walk as walk
 use Rattle.sap_walk.specs.Walk.{◌>>=◌}
 
--- where a reader is: behind so many of the tokens, none of which broke a limit
+-- Where a reader is: behind so many of the tokens, none of which broke a limit.
 abbrev pub stage_at : List Token → ℕ → Counts → Stage
 stage_at ts n counts = record { past = record { before = n; counts = counts; first = None }; left = drop n ts }
 
@@ -35,7 +35,7 @@ unfoldable pub ahead : List Token → Ahead
 ahead [] = a.Nothing
 ahead (t ∷ ts) = ahead_of t.kind
 
--- and behind it
+-- And behind it.
 unfoldable pub second : List Token → Ahead
 second [] = a.Nothing
 second (t ∷ ts) = ahead ts
@@ -86,31 +86,31 @@ leniently role t past = Ok (passed tally breach role t past)
 abbrev pub reads : Symbol → Stage → Outcome
 reads = read_by strictly
 
--- a reader of s that faults there does as the walk does, and stays there
+-- A reader of s that faults there does as the walk does, and stays there.
 abbrev pub Stops : Symbol → Stage → Fault → Stage → Type 0
 Stops s old f.Token new = reads s old ≡ Err (walk.at_token new)
 Stops s old (f.Limit limit) new = reads s old ≡ Err (walk.at_limit limit new)
 Stops s old f.Memory new = Unit {0}
 
--- a reader of s that answers this between these stages does as the walk does
+-- A reader of s that answers this between these stages does as the walk does.
 abbrev pub Goes : {A : Type 0} → Symbol → Stage → Result A Fault → Stage → Type 0
 Goes s old (Ok x) new = reads s old ≡ Ok new
 Goes s old (Err e) new = Stops s old e new
 
--- the token that stands at p is passed in this role, and breaks no limit; q comes behind it
+-- The token that stands at p is passed in this role, and breaks no limit; q comes behind it.
 pub record Passes (p : Stage) (role : Role) (token : Token) (q : Stage) : Type 0 where
   pub left : p.left ≡ token ∷ q.left
   pub past : q.past ≡ passed tally breach role token p.past
   pub free : breach p.past.counts role token ≡ None
 
--- the token that stands at p breaks a limit in this role
+-- The token that stands at p breaks a limit in this role.
 pub record Breaks (p : Stage) (role : Role) (limit : Limit) : Type 0 where
   pub token : Token
   pub rest : List Token
   pub left : p.left ≡ token ∷ rest
   pub broken : breach p.past.counts role token ≡ Some limit
 
--- the reader stops there, and stays
+-- The reader stops there, and stays.
 abbrev pub IsBroken : Stage → Role → Stage → Fault → Type 0
 IsBroken old role new f.Token = ⊥
 IsBroken old role new (f.Limit limit) = Breaks old role limit × (new ≡ old)

@@ -21,9 +21,10 @@ use Rattle.sap_walk.specs.Limits.{Limited}
 use Rattle.sap_walk.specs.Rows.{push, optional, ◌or◌, firsts}
 use Rattle.sap_walk.specs.Walk.{Next, begins, empty_here, cannot_stand}
 
--- What may be to come. The numbers are depths, of `bin` and `tail` precedences. `prim` is an operand that begins with no name. What may follow
--- a name in an expression is `behind_name`, and what may follow the `[` and a first number there `behind_bracket` and `behind_number`. `target` and
--- `cell_part` follow the name of a command and of a `setTag`. Behind the last of `last_states` stands nothing.
+-- What may be to come. The numbers are depths, of `bin` and `tail` precedences. `prim` is an operand that begins with
+-- no name. What may follow a name in an expression is `behind_name`, and what may follow the `[` and a first number
+-- there `behind_bracket` and `behind_number`. `target` and `cell_part` follow the name of a command and of a `setTag`.
+-- Behind the last of `last_states` stands nothing.
 pub data Symbol : Type 0 where
   sign : Role → SignOf → Symbol
   word : Role → WordOf → Symbol
@@ -107,7 +108,7 @@ operator_of s.Minus = Some b.Sub
 operator_of s.Star = Some b.Mul
 operator_of j = None
 
--- whether the sign can be a unary operator
+-- Whether the sign can be a unary operator.
 abbrev pub is_unary : SignOf → Bool
 is_unary s.Tilde = true
 is_unary s.Minus = true
@@ -116,12 +117,12 @@ is_unary s.Bar = true
 is_unary s.Caret = true
 is_unary j = false
 
--- further operators of the tightest precedences, so many of them
+-- Further operators of the tightest precedences, so many of them.
 abbrev pub tightest : ℕ → List Symbol
 tightest zero = []
 tightest (suc n) = tightest n ++ tail (unary_precedence - suc n) ∷ []
 
--- further operators of this precedence, or a tighter one
+-- Further operators of this precedence, or a tighter one.
 abbrev pub tails : ℕ → List Symbol
 tails l = tightest (unary_precedence - l)
 
@@ -136,11 +137,13 @@ paren_next = after_sign r.Opening s.OpenParen (expr ∷ sign r.Closing s.ClosePa
 
 -- A concatenation.
 abbrev pub braces_next : Kind → Row
-braces_next = after_sign r.Opening s.OpenBrace (expr ∷ sign r.Inner s.Comma ∷ expr ∷ parts ∷ sign r.Closing s.CloseBrace ∷ [])
+braces_next = after_sign r.Opening s.OpenBrace (expr ∷ sign r.Inner s.Comma ∷ expr ∷ parts
+    ∷ sign r.Closing s.CloseBrace ∷ [])
 
 -- A zero extension.
 abbrev pub zext_next : Kind → Row
-zext_next = after_word r.Inner w.Zext (sign r.Opening s.OpenParen ∷ expr ∷ sign r.Inner s.Comma ∷ number r.Inner ∷ sign r.Closing s.CloseParen ∷ [])
+zext_next = after_word r.Inner w.Zext (sign r.Opening s.OpenParen ∷ expr ∷ sign r.Inner s.Comma
+    ∷ number r.Inner ∷ sign r.Closing s.CloseParen ∷ [])
 
 -- A primary expression that doesn't begin with a name.
 abbrev pub prim_next : Kind → Row
@@ -156,7 +159,8 @@ unary_next i = signed_next i or post_next i
 
 -- A slice's brackets and range.
 abbrev pub slice_next : Kind → Row
-slice_next = after_sign r.Opening s.OpenBracket (number r.Inner ∷ sign r.Inner s.Colon ∷ number r.Inner ∷ sign r.Closing s.CloseBracket ∷ [])
+slice_next = after_sign r.Opening s.OpenBracket (number r.Inner ∷ sign r.Inner s.Colon ∷ number r.Inner
+    ∷ sign r.Closing s.CloseBracket ∷ [])
 
 -- The slices after an expression, if there are any.
 abbrev pub slices_next : Kind → Row
@@ -176,7 +180,7 @@ tail_next l i = empty_here
 abbrev pub choice_next : Kind → Row
 choice_next i = optional (after_sign r.Inner s.Question (expr ∷ sign r.Inner s.Colon ∷ expr ∷ []) i)
 
--- the symbols of which an expression with a first operand is made
+-- The symbols of which an expression with a first operand is made.
 abbrev pub operand_next : Kind → Symbol → Row
 operand_next i (sign role j) = sign_next role j i
 operand_next i unary = unary_next i
@@ -189,7 +193,7 @@ operand_next i symbol = cannot_stand
 abbrev pub expr_symbols : List Symbol
 expr_symbols = unary ∷ (tails 1 ++ choice ∷ [])
 
--- the rest of an index that begins with a number
+-- The rest of an index that begins with a number.
 abbrev pub index_symbols : List Symbol
 index_symbols = slices ∷ (tails 1 ++ choice ∷ sign r.Closing s.CloseBracket ∷ slices ∷ [])
 
@@ -203,7 +207,8 @@ after_name_next i = optional (after_sign r.Opening s.OpenBracket (behind_bracket
 
 -- What follows an opening bracket after a name: a range, or an index.
 abbrev pub after_bracket_next : Kind → Row
-after_bracket_next i = push (number_next r.Inner i) (behind_number ∷ []) or push (expr_next i) (sign r.Closing s.CloseBracket ∷ slices ∷ [])
+after_bracket_next i = push (number_next r.Inner i) (behind_number ∷ []) or push (expr_next i)
+    (sign r.Closing s.CloseBracket ∷ slices ∷ [])
 
 -- What follows a number after such a bracket: the rest of a range, or the rest of an index.
 abbrev pub after_number_next : Kind → Row
@@ -223,7 +228,8 @@ level_at_next = after_word r.Inner w.Level (sign r.Opening s.OpenParen ∷ expr 
 
 -- A join.
 abbrev pub join_next : Kind → Row
-join_next = after_word r.Inner w.Join (sign r.Opening s.OpenParen ∷ texpr ∷ sign r.Inner s.Comma ∷ texpr ∷ texprs ∷ sign r.Closing s.CloseParen ∷ [])
+join_next = after_word r.Inner w.Join (sign r.Opening s.OpenParen ∷ texpr ∷ sign r.Inner s.Comma ∷ texpr
+    ∷ texprs ∷ sign r.Closing s.CloseParen ∷ [])
 
 -- A tag expression.
 abbrev pub texpr_next : Kind → Row
@@ -235,7 +241,8 @@ texpr_next i = name_next r.Inner i or tag_of_next i or level_at_next i or join_n
 abbrev pub set_tag_next : ℕ → Kind → Row
 set_tag_next depth =
     after_word (r.Command depth) w.SetTag
-    (sign r.Plain s.OpenParen ∷ any_name r.Plain ∷ cell_part ∷ sign r.Plain s.Comma ∷ texpr ∷ sign r.Plain s.CloseParen ∷ [])
+    (sign r.Plain s.OpenParen ∷ any_name r.Plain ∷ cell_part ∷ sign r.Plain s.Comma ∷ texpr
+    ∷ sign r.Plain s.CloseParen ∷ [])
 
 -- A `goto`.
 abbrev pub goto_next : ℕ → Kind → Row
@@ -247,7 +254,8 @@ fall_next depth = word_next (r.Command depth) w.Fall
 
 -- A step.
 abbrev pub simple_next : ℕ → Kind → Row
-simple_next depth i = after_name (r.Command depth) (target ∷ []) i or set_tag_next depth i or goto_next depth i or fall_next depth i
+simple_next depth i = after_name (r.Command depth) (target ∷ []) i or set_tag_next depth i or goto_next
+    depth i or fall_next depth i
 
 -- What follows the name of a step's target: a value, or an index and a value.
 abbrev pub target_next : Kind → Row
@@ -262,7 +270,8 @@ cell_part_next i = optional (after_sign r.Plain s.OpenBracket (expr ∷ sign r.P
 -- An `if`.
 abbrev pub if_next : ℕ → Kind → Row
 if_next depth =
-    after_word (r.Command depth) w.If (sign r.Plain s.OpenParen ∷ expr ∷ sign r.Plain s.CloseParen ∷ block (depth + 1) ∷ else_part (depth + 1) ∷ [])
+    after_word (r.Command depth) w.If (sign r.Plain s.OpenParen ∷ expr ∷ sign r.Plain s.CloseParen
+    ∷ block (depth + 1) ∷ else_part (depth + 1) ∷ [])
 
 -- A constant of an arm.
 abbrev pub constant_next : Kind → Row
@@ -284,7 +293,8 @@ arms_next depth i = push (arm_next depth i) (arms depth ∷ []) or after_word r.
 abbrev pub case_next : ℕ → Kind → Row
 case_next depth =
     after_word (r.Command depth) w.Case
-    (sign r.Plain s.OpenParen ∷ expr ∷ sign r.Plain s.CloseParen ∷ sign r.Plain s.OpenBrace ∷ arm (depth + 1) ∷ arms (depth + 1) ∷ sign r.Plain s.CloseBrace ∷ [])
+    (sign r.Plain s.OpenParen ∷ expr ∷ sign r.Plain s.CloseParen ∷ sign r.Plain s.OpenBrace
+    ∷ arm (depth + 1) ∷ arms (depth + 1) ∷ sign r.Plain s.CloseBrace ∷ [])
 
 -- A command.
 abbrev pub cmd_next : ℕ → Kind → Row
@@ -329,18 +339,21 @@ initial_next i = optional (after_sign r.Plain s.Is (number r.Plain ∷ []) i)
 
 -- The declaration of an input.
 abbrev pub input_next : Kind → Row
-input_next = after_word r.Input w.Input (any_name r.Plain ∷ sign r.Plain s.Colon ∷ number r.Plain ∷ sign r.Plain s.Semicolon ∷ [])
+input_next = after_word r.Input w.Input (any_name r.Plain ∷ sign r.Plain s.Colon ∷ number r.Plain
+    ∷ sign r.Plain s.Semicolon ∷ [])
 
 -- The declaration of a register.
 abbrev pub register_next : Kind → Row
 register_next =
-    after_word r.Register w.Reg (any_name r.Plain ∷ sign r.Plain s.Colon ∷ number r.Plain ∷ kind_of ∷ initial ∷ sign r.Plain s.Semicolon ∷ [])
+    after_word r.Register w.Reg (any_name r.Plain ∷ sign r.Plain s.Colon ∷ number r.Plain ∷ kind_of
+    ∷ initial ∷ sign r.Plain s.Semicolon ∷ [])
 
 -- The declaration of a memory.
 abbrev pub memory_next : Kind → Row
 memory_next =
     after_word r.Memory w.Mem
-    (any_name r.Plain ∷ sign r.Plain s.Colon ∷ number r.Plain ∷ sign r.Plain s.OpenBracket ∷ number r.Plain ∷ sign r.Plain s.CloseBracket
+    (any_name r.Plain ∷ sign r.Plain s.Colon ∷ number r.Plain ∷ sign r.Plain s.OpenBracket
+    ∷ number r.Plain ∷ sign r.Plain s.CloseBracket
     ∷ kind_of ∷ sign r.Plain s.Semicolon ∷ [])
 
 -- A declaration.
@@ -357,7 +370,8 @@ declarations_next i = optional (push (declaration_next i) (declarations ∷ []))
 abbrev pub state_next : ℕ → Kind → Row
 state_next depth =
     after_word (r.State depth) w.State
-    (any_name r.Plain ∷ kind_of ∷ sign r.Plain s.OpenBrace ∷ cmds 1 ∷ states (depth + 1) ∷ sign r.Plain s.CloseBrace ∷ [])
+    (any_name r.Plain ∷ kind_of ∷ sign r.Plain s.OpenBrace ∷ cmds 1 ∷ states (depth + 1)
+    ∷ sign r.Plain s.CloseBrace ∷ [])
 
 -- The children of a state, if there are any.
 abbrev pub states_next : ℕ → Kind → Row
@@ -371,7 +385,7 @@ last_states_next i = push (state_next 1 i) (last_states ∷ [])
 abbrev pub header_next : Kind → Row
 header_next i = optional (after_word r.Plain w.Sapper (word r.Plain w.Two ∷ sign r.Plain s.Semicolon ∷ []) i)
 
--- the symbols of which a design is made
+-- The symbols of which a design is made.
 abbrev pub part_next : Kind → Symbol → Row
 part_next i header = header_next i
 part_next i declarations = declarations_next i

@@ -11,23 +11,26 @@ use Rattle.sap_parse.specs.Text.{IsText}
 use Rattle.sap_text.specs.declared.place.Place.{Place}
 use Rattle.sap_tree.specs.Syntax.{DesignTree}
 
--- on an earlier line, or on the same line in an earlier column
+-- On an earlier line, or on the same line in an earlier column.
 abbrev pub LiesBefore : Place → Place → Type 0
 LiesBefore p q = (p.line < q.line) ⊎ ((p.line ≡ q.line) × (p.column < q.column))
 
--- each lies before all those after it
+-- Each lies before all those after it.
 abbrev pub Rise : List Place → Type 0
 Rise [] = Unit {0}
 Rise (p ∷ ps) = AllByRecursion (LiesBefore p) ps × Rise ps
 
--- those of the first tokens of the check sites
+-- Those of the first tokens of the check sites.
 abbrev pub SitesRise : Type 0
-SitesRise = (text : List ℕ) (design : DesignTree) → IsText text design → Rise (map (λ (s : Site). s.place) (sites_of design))
+SitesRise = (text : List ℕ) (design : DesignTree) → IsText text design
+    → Rise (map (λ (s : Site). s.place) (sites_of design))
 
--- those of the words of the points
+-- Those of the words of the points.
 abbrev pub PointsRise : Type 0
-PointsRise = (text : List ℕ) (design : DesignTree) → IsText text design → Rise (map (λ (p : Point). p.place) (points_of design))
+PointsRise = (text : List ℕ) (design : DesignTree) → IsText text design
+    → Rise (map (λ (p : Point). p.place) (points_of design))
 
--- those where the entities' names are declared
+-- Those where the entities' names are declared.
 abbrev pub EntitiesRise : Type 0
-EntitiesRise = (text : List ℕ) (design : DesignTree) → IsText text design → Rise (map (λ (e : Entity). e.name.place) (entities_of design))
+EntitiesRise = (text : List ℕ) (design : DesignTree) → IsText text design
+    → Rise (map (λ (e : Entity). e.name.place) (entities_of design))

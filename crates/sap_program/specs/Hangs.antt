@@ -3,7 +3,7 @@ use Rattle.std.specs.Prelude.{ℕ, Bool, true, List, [], ◌∷◌, nat_eq, nat_
 use Rattle.std.specs.List.{list_any}
 use Rattle.sap_resolved.specs.Fill.{table}
 
--- each number of a list is above the one before it
+-- Each number of a list is above the one before it.
 abbrev pub rises_from : ℕ → List ℕ → Bool
 rises_from x [] = true
 rises_from x (y ∷ ys) = nat_lt x y && rises_from y ys
@@ -17,6 +17,6 @@ rises (x ∷ xs) = rises_from x xs
 abbrev pub hangs : List ℕ → ℕ → Bool
 hangs ys x = list_any (λ y. nat_eq y x) ys
 
--- of each of the n entities, whether it hangs
+-- Of each of the n entities, whether it hangs.
 abbrev pub flags : (n : ℕ) → List ℕ → List Bool
 flags n hang = table n (hangs hang)

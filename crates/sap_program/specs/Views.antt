@@ -31,7 +31,14 @@ kind_of_sort (sort.State place last) = program.state place last
 
 -- The entity that a stored entity stands for.
 abbrev pub entity_of : Entity → program.Entity
-entity_of e = record { kind = kind_of_sort e.sort; width = e.width; dynamic = e.dynamic; declared = e.declared; authority = e.authority; initial = e.initial }
+entity_of e = record {
+  kind = kind_of_sort e.sort;
+  width = e.width;
+  dynamic = e.dynamic;
+  declared = e.declared;
+  authority = e.authority;
+  initial = e.initial;
+}
 
 -- The term that a stored number stands for.
 abbrev pub term_of : Number → Term ℕ
@@ -64,14 +71,18 @@ unfoldable mutual
   pub command_of : (n : ℕ) → Command → program.Command
   command_of n (command.Do s) = program.lone (step_of n s)
   command_of n (command.Try' s hang k handler) = program.try (step_of n s) (flags n hang) (row_block n handler)
-  command_of n (command.If' hang e k then_part m else_part) = program.if_else (flags n hang) (term_of e) (row_block n then_part) (row_block n else_part)
-  command_of n (command.TryThen' s hang k accepted m refused) = program.try_then (step_of n s) (flags n hang) (row_block n accepted) (row_block n refused)
-  command_of n (command.Case' hang e k arms m last_part) = program.case_of (flags n hang) (term_of e) (row_arms n arms (last_arm (row_block n last_part)))
+  command_of n (command.If' hang e k then_part m else_part) =
+      program.if_else (flags n hang) (term_of e) (row_block n then_part) (row_block n else_part)
+  command_of n (command.TryThen' s hang k accepted m refused) =
+      program.try_then (step_of n s) (flags n hang) (row_block n accepted) (row_block n refused)
+  command_of n (command.Case' hang e k arms m last_part) =
+      program.case_of (flags n hang) (term_of e) (row_arms n arms (last_arm (row_block n last_part)))
 
-  -- arms in front of others
+  -- Arms in front of others.
   pub row_arms : (n : ℕ) → {k : _} → Row_of-Arm k → Arms → Arms
   row_arms n end_of-Arm others = others
-  row_arms n (more_of-Arm constants m block rest) others = program.and_arm constants.items (row_block n block) (row_arms n rest others)
+  row_arms n (more_of-Arm constants m block rest) others =
+      program.and_arm constants.items (row_block n block) (row_arms n rest others)
 
   pub row_block : (n : ℕ) → {k : _} → Row_of-Command k → Block
   row_block n end_of-Command = end_block
@@ -114,25 +125,25 @@ unfoldable pub group_of : (n : ℕ) → List State → Group
 group_of n [] = no_node
 group_of n (s ∷ ss) = and_node (state_of n s) (group_of n ss)
 
--- where a body stands
+-- Where a body stands.
 abbrev pub home_of : (n : ℕ) → Home → checks.Home
 home_of n at = record { state = at.state; parent = at.parent; children = group_of n at.children.now }
 
--- one block behind another
+-- One block behind another.
 abbrev pub followed : Block → Block → Block
 followed end_block b = b
 followed (command_then c cs) b = command_then c (followed cs b)
 
--- one group behind another
+-- One group behind another.
 abbrev pub joined : Group → Group → Group
 joined no_node g = g
 joined (and_node s rest) g = and_node s (joined rest g)
 
--- how many entities there are
+-- How many entities there are.
 abbrev pub count : Program → ℕ
 count p = length p.entities.items
 
--- what is declared of the entity of a number
+-- What is declared of the entity of a number.
 abbrev pub entity_in : Program → ℕ → program.Entity
 entity_in p x = get_or (map entity_of p.entities.items) x program.nothing
 
@@ -140,7 +151,7 @@ entity_in p x = get_or (map entity_of p.entities.items) x program.nothing
 abbrev pub names_in : Program → List (List ℕ)
 names_in p = map (λ e. e.name) p.entities.items
 
--- over levels of this order
+-- Over levels of this order.
 abbrev pub program_in : Order → Program → program.Program
 program_in o p = record {
   world = record { order = o; entities = map entity_of p.entities.items; children = p.children.items };

@@ -17,15 +17,15 @@ use Rattle.sap_shape.specs.Sites as sites
 use Rattle.sap_shape.specs.Sites.{Surroundings}
 use Rattle.sap_resolved.specs.Worlds as worlds
 
--- where the next site has the number k
+-- Where the next site has the number k.
 unfoldable pub list_from : Levels → Surroundings → (k : ℕ) → List Cmd → Block
 list_from ls h k cs = resolve.list_of ls h k (commands_of cs)
 
--- how many check sites they have
+-- How many check sites they have.
 unfoldable pub list_site_count : Surroundings → List Cmd → ℕ
 list_site_count h cs = length (shape_lists.list_sites h cs)
 
--- with this block for no arm
+-- With this block for no arm.
 unfoldable pub arms_from : Levels → Surroundings → (k : ℕ) → List Arm → Block → Arms
 arms_from ls h k [] last = last_arm last
 arms_from ls h k (arm ∷ arms) last =
@@ -40,7 +40,7 @@ arms_site_count h arms = length (shape_lists.arms_sites h arms)
 unfoldable pub numbers_of : List Expr → List ℕ
 numbers_of es = resolve.numbers_of (expressions_of es)
 
--- and the next state the number x
+-- And the next state the number x.
 unfoldable pub group_from : Levels → List Entity → (k x : ℕ) → List State → Group
 group_from ls es k x ss = resolve.group_of ls es k x (states_of ss)
 
@@ -52,11 +52,12 @@ group_site_count es ss = length (shape_lists.group_sites es ss)
 unfoldable pub states_below : List State → ℕ
 states_below ss = worlds.states_below (states_of ss)
 
--- the entities of states of which the first has this place in its group and this number; their names; and how many children they have
+-- The entities of states of which the first has this place in its group and this number; their names; and how many
+-- children they have.
 unfoldable pub group_entities : Levels → (place number : ℕ) → List State → List program.Entity
 group_entities ls n x ss = worlds.group_entities ls n x (states_of ss)
 
--- the names of entities
+-- The names of entities.
 abbrev pub names_of : List Entity → List (List ℕ)
 names_of es = map (λ e. e.name.name) es
 

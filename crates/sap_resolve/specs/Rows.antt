@@ -1,16 +1,16 @@
--- What hangs on the points of a program, by their numbers. Each `if`, `otherwise`, `fall`, `then` and `case` is a point, in the order of these words;
--- the `otherwise` of a `then` is none.
+-- What hangs on the points of a program, by their numbers. Each `if`, `otherwise`, `fall`, `then` and `case` is a
+-- point, in the order of these words; the `otherwise` of a `then` is none.
 use Rattle.std.specs.Prelude.{ℕ, ◌+◌, Bool, List}
 use Rattle.sap_hang.specs.Hang.{Table, says, says_of_root}
 use Rattle.sap_meaning.specs.Program.{Step, assign, write, retag, retag_cell, go_to, fall_to_child, Command, lone, try, if_else, try_then, case_of, Arms, last_arm, and_arm, Block, end_block, command_then, State, state_node, Group, no_node, and_node}
 use Rattle.sap_meaning.specs.Walks.{folded, folded_in_arms, folded_in_block, body_of, gathered_from, gathered_from_group}
 use Rattle.sap_resolved.specs.Fill.{table}
 
--- for each point, of each entity whether it hangs there
+-- For each point, of each entity whether it hangs there.
 abbrev pub Rows : Type 0
 Rows = ℕ → List Bool
 
--- what a table says of n entities
+-- What a table says of n entities.
 abbrev pub rows_in : (n : ℕ) → Table → Rows
 rows_in n t point = table n (says t point)
 
@@ -83,7 +83,8 @@ abbrev mutual
 
   pub arms_with : Rows → (p : ℕ) → Arms → Arms
   arms_with r p (last_arm b) = last_arm (block_with r p b)
-  arms_with r p (and_arm constants b arms) = and_arm constants (block_with r p b) (arms_with r (p + block_points b) arms)
+  arms_with r p (and_arm constants b arms) =
+      and_arm constants (block_with r p b) (arms_with r (p + block_points b) arms)
 
   pub block_with : Rows → (p : ℕ) → Block → Block
   block_with r p end_block = end_block
@@ -92,7 +93,8 @@ abbrev mutual
 -- A state with the lists of the points in its body and in those of its descendants.
 abbrev mutual
   pub state_with : Rows → (p : ℕ) → State → State
-  state_with r p (state_node s body children) = state_node s (block_with r p body) (group_with r (p + block_points body) children)
+  state_with r p (state_node s body children) =
+      state_node s (block_with r p body) (group_with r (p + block_points body) children)
 
   pub group_with : Rows → (p : ℕ) → Group → Group
   group_with r p no_node = no_node

@@ -8,7 +8,10 @@ use Rattle.sap_resolve.specs.declared.standing.Standing.{Standing}
 
 -- What a body knows of its design and of its state.
 abbrev pub surroundings_of : Standing → Surroundings
-surroundings_of s = record { entities = s.names.now; home = record { name = s.name.now; kind = s.kind.now; children = states_of s.children.now } }
+surroundings_of s = record {
+  entities = s.names.now;
+  home = record { name = s.name.now; kind = s.kind.now; children = states_of s.children.now };
+}
 
 -- The lists of the design's points, by their numbers.
 abbrev pub rows_of : Standing → Rows

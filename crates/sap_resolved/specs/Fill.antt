@@ -21,7 +21,8 @@ filled_step w at (write site m i e) = write site m i e
 filled_step w at (retag site x n) = retag site x n
 filled_step w at (retag_cell site m j n) = retag_cell site m j n
 filled_step w at (go_to site target) = go_to site target
-filled_step w at (fall_to_child site hang) = fall_to_child site (table (root w) (touches w at (lone (fall_to_child site hang))))
+filled_step w at (fall_to_child site hang) =
+    fall_to_child site (table (root w) (touches w at (lone (fall_to_child site hang))))
 
 -- `filled_hang` has what depends on a command in the body of a state.
 abbrev pub filled_hang : World → Home → Command → List Bool
@@ -43,7 +44,8 @@ filled_block w at b = mapped_block (filled_step w at) (filled_hang w at) b
 abbrev mutual
   pub filled_state : World → (parent : ℕ) → State → State
   filled_state w p (state_node s body children) =
-      state_node s (filled_block w (record { state = s; parent = p; children = children }) body) (filled_group w s children)
+      state_node s (filled_block w (record { state = s; parent = p; children = children }) body)
+      (filled_group w s children)
 
   pub filled_group : World → (parent : ℕ) → Group → Group
   filled_group w p no_node = no_node

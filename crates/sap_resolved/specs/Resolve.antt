@@ -22,12 +22,14 @@ site_number h k c = if is_site h.entities h.home.kind h.home.children c then k e
 -- The step of a program that a step of the tree is, with its site's number.
 abbrev pub step_of : Levels → Surroundings → (site : ℕ) → SimpleCommand → Step
 step_of ls h n (assign target e) =
-    assign n (entity_number h.entities target.name) (term_of h.entities e (register_width (what_is h.entities target.name)))
+    assign n (entity_number h.entities target.name)
+    (term_of h.entities e (register_width (what_is h.entities target.name)))
 step_of ls h n (write target index e) =
     program.write n (entity_number h.entities target.name)
     (term_of h.entities index (index_width (what_is h.entities target.name)))
     (term_of h.entities e (cell_width (what_is h.entities target.name)))
-step_of ls h n (set_tag place target tag) = retag n (entity_number h.entities target.name) (level_term ls h.entities tag)
+step_of ls h n (set_tag place target tag) =
+    retag n (entity_number h.entities target.name) (level_term ls h.entities tag)
 step_of ls h n (set_cell_tag place target index tag) =
     retag_cell n (entity_number h.entities target.name)
     (term_of h.entities index (index_width (what_is h.entities target.name))) (level_term ls h.entities tag)
@@ -69,11 +71,13 @@ abbrev mutual
 
   pub arms_of : Levels → Surroundings → (k : ℕ) → tree.Arms → Arms
   arms_of ls h k (tree.last_arm b) = last_arm (block_of ls h k b)
-  arms_of ls h k (tree.and_arm constants b arms) = and_arm (numbers_of constants) (block_of ls h k b) (arms_of ls h (k + length (block_sites h b)) arms)
+  arms_of ls h k (tree.and_arm constants b arms) =
+      and_arm (numbers_of constants) (block_of ls h k b) (arms_of ls h (k + length (block_sites h b)) arms)
 
   pub list_of : Levels → Surroundings → (k : ℕ) → CommandList → Block
   list_of ls h k no_command = end_block
-  list_of ls h k (and_command c cs) = command_then (command_of ls h k c) (list_of ls h (k + length (command_sites h c)) cs)
+  list_of ls h k (and_command c cs) = command_then (command_of ls h k c)
+      (list_of ls h (k + length (command_sites h c)) cs)
 
 -- In a state whose number is `x` the next check site has the number `k`.
 abbrev mutual
@@ -84,7 +88,8 @@ abbrev mutual
 
   pub group_of : Levels → List Entity → (k x : ℕ) → StateList → Group
   group_of ls es k x no_state = no_node
-  group_of ls es k x (and_state s rest) = and_node (state_of ls es k x s) (group_of ls es (k + length (state_sites es s)) (x + states_in s) rest)
+  group_of ls es k x (and_state s rest) = and_node (state_of ls es k x s)
+      (group_of ls es (k + length (state_sites es s)) (x + states_in s) rest)
 
 -- `states_of` are the states of a design.
 abbrev pub states_of : Levels → DesignTree → Group

@@ -56,12 +56,15 @@ abbrev mutual
   term_of es (literal spot value) asked = term.constant (known asked) value
   term_of es (sized_literal spot width value) asked = term.constant width value
   term_of es (variable spot name) asked = term.read (entity_number es name)
-  term_of es (cell_at spot name index) asked = term.cell (entity_number es name) (term_of es index (index_width (what_is es name)))
+  term_of es (cell_at spot name index) asked =
+      term.cell (entity_number es name) (term_of es index (index_width (what_is es name)))
   term_of es (unary_of spot operator e) asked =
-      term.one (one_of operator) (term_of es e (asked_one operator (width_of (what_is es) (unary_of spot operator e) asked)))
+      term.one (one_of operator) (term_of es e
+      (asked_one operator (width_of (what_is es) (unary_of spot operator e) asked)))
   term_of es (binary_of spot operator a b) asked =
       let whole = width_of (what_is es) (binary_of spot operator a b) asked in
-      term.two (two_of operator) (term_of es a (asked_left (family operator) whole (own (what_is es) a) (own (what_is es) b)))
+      term.two (two_of operator) (term_of es a
+      (asked_left (family operator) whole (own (what_is es) a) (own (what_is es) b)))
       (term_of es b (asked_right (family operator) whole (own (what_is es) a) (own (what_is es) b)))
   term_of es (choice spot condition a b) asked =
       let whole = width_of (what_is es) (choice spot condition a b) asked in

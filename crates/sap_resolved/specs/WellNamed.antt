@@ -1,5 +1,5 @@
--- Programs in which each name is that of an entity of the kind that its place asks for. A state is named by a number below the root's, past which
--- every number would pass for one.
+-- Programs in which each name is that of an entity of the kind that its place asks for. A state is named by a number
+-- below the root's, past which every number would pass for one.
 use Rattle.std.specs.Prelude.{◌≡◌, ◌<◌, true, ◌||◌}
 use Rattle.sap_meaning.specs.Program.{World, root, is_register, is_memory, is_state, Step, assign, write, retag, retag_cell, go_to, fall_to_child, Command, State, Group}
 use Rattle.sap_meaning.specs.Walks.{EveryInBlock, Asks, EveryBody, EveryBodyIn}
@@ -14,7 +14,7 @@ WellNamedStep w (retag_cell site m j n) = (is_memory w m ≡ true) × FineTerm w
 WellNamedStep w (go_to site target) = (is_state w target ≡ true) × (target < root w)
 WellNamedStep w (fall_to_child site hang) = Unit {0}
 
--- what is asked of a command alone
+-- What is asked of a command alone.
 abbrev pub WellNamedCommand : World → Command → Type 0
 WellNamedCommand w c = Asks (WellNamedStep w) (FineTerm w) c
 

@@ -12,23 +12,23 @@ use Rattle.sap_rows.specs.declared.table.Step.{Step}
 abbrev pub has_name : List ℕ → File → Bool
 has_name name file = bytes_eq (string_bytes file.name) name
 
--- the bytes of the first file with a name
+-- The bytes of the first file with a name.
 abbrev pub bytes_of : List File → List ℕ → Option (List ℕ)
 bytes_of files name = option_map (λ f. f.bytes.items) (find (has_name name) files)
 
--- whether a file is the one that is cut
+-- Whether a file is the one that is cut.
 abbrev pub cuts : Option Cut → File → Bool
 cuts None file = false
 cuts (Some cut) file = has_name (string_bytes cut.file) file
 
--- the bytes of the file that is cut, where it is put; else none
+-- The bytes of the file that is cut, where it is put; else none.
 abbrev pub cut_bytes : Step → List ℕ
 cut_bytes step = of step.cut where
   of : Option Cut → List ℕ
   of None = []
   of (Some cut) = unwrap_or (bytes_of step.files.items (string_bytes cut.file)) []
 
--- the bytes of a file that are put
+-- The bytes of a file that are put.
 abbrev pub put_bytes : Step → File → Circumstance → List ℕ
 put_bytes step file AsItStands = file.bytes.items
 put_bytes step file (Failing call) = file.bytes.items
@@ -40,7 +40,7 @@ abbrev pub further : List Step → ℕ
 further [] = 0
 further (step ∷ steps) = if string_len step.turns == 0 then length (cut_bytes step) else string_len step.turns + 1
 
--- how the further run of a number, from 0, is made
+-- How the further run of a number, from 0, is made.
 abbrev pub further_at : List Step → (number : ℕ) → Circumstance
 further_at [] number = CutAt number
 further_at (step ∷ steps) number = if string_len step.turns == 0 then CutAt number else Failing (number + 1)

@@ -10,7 +10,7 @@ use Rattle.sap_meaning.specs.Agree.{High, StatesAgree, seen}
 use Rattle.sap_meaning.specs.Fine.{FineProgram, number_of, kids_of, Nth}
 use Rattle.sap_meaning.specs.Once.{reaches}
 
--- the parent of the group in which the way ends that begins below p and goes down through those states
+-- The parent of the group in which the way ends that begins below p and goes down through those states.
 abbrev pub last_parent : ℕ → (way : List State) → ℕ
 last_parent p [] = p
 last_parent p (t ∷ way) = last_parent (number_of t) way
@@ -20,7 +20,7 @@ abbrev pub Active : (p : ℕ) → Group → Store → (way : List State) → Sta
 Active p g s [] t = Nth g (child p s) t
 Active p g s (a ∷ way) t = Nth g (child p s) a × Active (number_of a) (kids_of a) s way t
 
--- c stands in a command, or in a list
+-- `c` stands in a command, or in a list.
 abbrev mutual
   pub StandsIn : Command → Command → Type 0
   StandsIn c (lone k) = c ≡ lone k
@@ -55,23 +55,24 @@ is_fall (retag_cell site m j n) = false
 is_fall (go_to site target) = false
 is_fall (fall_to_child site hang) = true
 
--- a goto stands in it
+-- A goto stands in it.
 abbrev pub has_goto : Command → Bool
 has_goto c = some (λ k. is_goto k) c
 
--- a fall stands in it
+-- A fall stands in it.
 abbrev pub has_fall : Command → Bool
 has_fall c = some (λ k. is_fall k) c
 
--- the slot of an entity's level; of a memory its next part counts
+-- The slot of an entity's level; of a memory its next part counts.
 abbrev pub level_slot : World → ℕ → Slot
 level_slot w x = if is_memory w x then next_whole x else own x
 
--- the two parts of a memory are equal
+-- The two parts of a memory are equal.
 abbrev pub EqualParts : World → ℕ → Store → Type 0
-EqualParts w m s = (i : ℕ) → (number (start m i) s ≡ number (next m i) s) × (level w (start m i) s ≡ level w (next m i) s)
+EqualParts w m s = (i : ℕ) → (number (start m i) s ≡ number (next m i) s)
+    × (level w (start m i) s ≡ level w (next m i) s)
 
--- one of the states has a level that is not at or below l
+-- One of the states has a level that is not at or below l.
 abbrev pub SomeHigh : World → ℕ → Store → List State → Type 0
 SomeHigh w l s [] = ⊥
 SomeHigh w l s (t ∷ ts) = High w.order l (level w (own (number_of t)) s) ⊎ SomeHigh w l s ts
@@ -80,11 +81,14 @@ SomeHigh w l s (t ∷ ts) = High w.order l (level w (own (number_of t)) s) ⊎ S
 -- with a level at or below l where c has a fall.
 abbrev pub Guarded : World → ℕ → ℕ → Group → Command → Store → Type 0
 Guarded w l e g c s = (has_goto c ≡ true → is_dynamic w e ≡ false)
-    × (has_fall c ≡ true → (t : State) → Nth g (child e s) t → is_dynamic w (number_of t) ≡ true → High w.order l (level w (own (number_of t)) s))
+    × (has_fall c ≡ true → (t : State) → Nth g (child e s) t → is_dynamic w (number_of t) ≡ true
+    → High w.order l (level w (own (number_of t)) s))
 
--- The conditions: the state e with its body b and children g is on the active path, behind the states of `way`, and c
--- stands in its body; the context, ..
-pub record Hidden (p : Program) (l : ℕ) (s : Store) (way : List State) (e : ℕ) (b : Block) (g : Group) (c : Command) (pc : ℕ) : Type 0 where
+-- The conditions of confinement: the state e with its body b and children g is on the active path, behind the states of
+-- `way`, and c stands in its body; neither the context nor any dynamic register or memory that c touches is at or below
+-- l; and what the fields say of memories and of the states above.
+pub record Hidden (p : Program) (l : ℕ) (s : Store) (way : List State) (e : ℕ) (b : Block) (g : Group)
+    (c : Command) (pc : ℕ) : Type 0 where
   pub holds : Holds p.world s
   pub active : Active (root p.world) p.states s way (state_node e b g)
   pub command : StandsInBlock c b
@@ -94,7 +98,8 @@ pub record Hidden (p : Program) (l : ℕ) (s : Store) (way : List State) (e : �
       → touches p.world (record { state = e; parent = last_parent (root p.world) way; children = g }) c x ≡ true
       → High p.world.order l (s.level (level_slot p.world x))
   -- each enforced memory that c writes, or a body that it may fall into, has equal parts;
-  pub parts : (m : ℕ) → is_memory p.world m ≡ true → is_dynamic p.world m ≡ false → reaches g c m ≡ true → EqualParts p.world m s
+  pub parts : (m : ℕ) → is_memory p.world m ≡ true → is_dynamic p.world m ≡ false → reaches g c m ≡ true
+      → EqualParts p.world m s
   -- and the state or one above it is not at or below l, or its goto and its fall are guarded
   pub above : SomeHigh p.world l s (state_node e b g ∷ way) ⊎ Guarded p.world l e g c s
 
@@ -102,9 +107,17 @@ pub record Hidden (p : Program) (l : ℕ) (s : Store) (way : List State) (e : �
 abbrev pub Confines : Program → Type 0
 Confines p = (l : ℕ) (s : Store) (way : List State) (e : ℕ) (b : Block) (g : Group) (c : Command) (pc : ℕ)
     → Hidden p l s way e b g c pc
-    → StatesAgree p l s (does p.world (record { state = e; parent = last_parent (root p.world) way; children = g }) (does_child p.world g e) c pc s).store
-    × (seen p.world.order l (does p.world (record { state = e; parent = last_parent (root p.world) way; children = g }) (does_child p.world g e) c pc s).refused ≡ [])
+    → StatesAgree p l s (does p.world (record {
+      state = e;
+      parent = last_parent (root p.world) way;
+      children = g;
+    }) (does_child p.world g e) c pc s).store
+    × (seen p.world.order l (does p.world (record {
+      state = e;
+      parent = last_parent (root p.world) way;
+      children = g;
+    }) (does_child p.world g e) c pc s).refused ≡ [])
 
--- so it is in every fine program
+-- So it is in every fine program.
 abbrev pub Confinement : Type 0
 Confinement = (p : Program) → FineProgram p → Confines p

@@ -10,7 +10,7 @@ use Rattle.sap_meaning.specs.Fine.{FineProgram}
 use Rattle.sap_meaning.specs.Examples.{two_levels, an_input, a_register, held_register, a_state, held_state, low, high, refused_at, program_of, shown, shows, fork, put_x}
 use Rattle.sap_secure.specs.Confinement.{Hidden}
 
--- z := 5 then { y := 5 otherwise { x := 1; } } otherwise { x := 2; }
+-- The text `z := 5 then { y := 5 otherwise { x := 1; } } otherwise { x := 2; }`.
 abbrev pub decided : Command
 decided = try_then (assign 1 3 (constant 8 5)) []
     (command_then (try (assign 2 2 (constant 8 5)) [] (command_then (put_x 1) end_block)) end_block)
@@ -36,28 +36,31 @@ body_p = command_then (lone (fall_to_child 0 [])) end_block
 abbrev pub state_p : State
 state_p = state_node 4 body_p states_below_p
 
--- input a : 8; reg x : 8 dynamic; reg y : 8 enforced low = 7; reg z : 8 enforced high = 3;
--- state P enforced low { fall; state C dynamic { if (a == 1) { goto D; } else { goto C; } } state D dynamic { z := .. goto D; } }
+-- The text `input a : 8; reg x : 8 dynamic; reg y : 8 enforced low = 7; reg z : 8 enforced high = 3; state P enforced
+-- low { fall; state C dynamic { if (a == 1) { goto D; } else { goto C; } } state D dynamic { z := .. goto D; } }`.
 abbrev pub hiding : Program
 hiding = program_of two_levels
-    (an_input 8 ∷ a_register 8 ∷ held_register 8 0 7 ∷ held_register 8 1 3 ∷ held_state 0 6 0 ∷ a_state 0 5 ∷ a_state 1 6 ∷ [])
+    (an_input 8 ∷ a_register 8 ∷ held_register 8 0 7 ∷ held_register 8 1 3 ∷ held_state 0 6 0
+    ∷ a_state 0 5 ∷ a_state 1 6 ∷ [])
     (0 ∷ 0 ∷ 0 ∷ 0 ∷ 2 ∷ 0 ∷ 0 ∷ 1 ∷ []) (and_node state_p no_node)
 
--- In the first cycle a, from above, leads to D, and in the second the fall enters D in the context high: x is raised and given 1,
--- and the write of y is refused at high.
+-- In the first cycle a, from above, leads to D, and in the second the fall enters D in the context high: x is raised
+-- and given 1, and the write of y is refused at high.
 abbrev pub EntersHigh : Type 0
 EntersHigh = shows hiding 1 ((high 1 ∷ []) ∷ (low 0 ∷ []) ∷ []) ≡ (low 0, []) ∷ (high 1, refused_at 2 1 ∷ []) ∷ []
 
--- P's current child is D; and C, D and x are at high
+-- P's current child is D; and C, D and x are at high.
 abbrev pub before : Store
-before = put_child 4 1 (put_level hiding.world (own 1) 1 (put_level hiding.world (own 5) 1 (put_level hiding.world (own 6) 1 (first hiding.world))))
+before = put_child 4 1 (put_level hiding.world (own 1) 1
+    (put_level hiding.world (own 5) 1 (put_level hiding.world (own 6) 1 (first hiding.world))))
 
--- what the command does in D, in the context high
+-- What the command does in D, in the context high.
 abbrev pub after : After
-after = does hiding.world (record { state = 6; parent = 4; children = no_node }) (does_child hiding.world no_node 6) decided 1 before
+after = does hiding.world (record { state = 6; parent = 4; children = no_node })
+    (does_child hiding.world no_node 6) decided 1 before
 
--- The conditions hold of it, at low. z and x, which are at high, are written, and y, which is at low, is not; the refusal is told at high. So at low nothing is
--- seen to change, and no refusal.
+-- The conditions hold of it, at low. z and x, which are at high, are written, and y, which is at low, is not; the
+-- refusal is told at high. So at low nothing is seen to change, and no refusal.
 pub record HiddenAtLow : Type 0 where
   pub fine : FineProgram hiding
   pub premise : Hidden hiding 0 before (state_p ∷ []) 6 body_d no_node decided 1

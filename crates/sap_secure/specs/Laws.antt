@@ -12,18 +12,20 @@ use Rattle.sap_meaning.specs.Fine.{FineProgram}
 abbrev pub CyclesAgree : Program → Type 0
 CyclesAgree p = (l : ℕ) (s t : Store) → Resting p.world s → Resting p.world t → StatesAgree p l s t
     → (a b : List Tagged) → InputsAgree p.world.order l a b
-    → StatesAgree p l (cycle p a s).store (cycle p b t).store × RefusalsAgree p.world.order l (cycle p a s).refused (cycle p b t).refused
+    → StatesAgree p l (cycle p a s).store (cycle p b t).store
+    × RefusalsAgree p.world.order l (cycle p a s).refused (cycle p b t).refused
 
--- So do streams, cycle for cycle, ..
+-- From states between cycles that agree at a level, streams that agree there give runs that agree there in every cycle.
 abbrev pub LaterAgree : Program → Type 0
 LaterAgree p = (l : ℕ) (s t : Store) → Resting p.world s → Resting p.world t → StatesAgree p l s t
     → (a b : List (List Tagged)) → StreamsAgree p.world.order l a b → RunsAgree p l (run_from p s a) (run_from p t b)
 
--- .. and so from the first state.
+-- From the first state, streams that agree at a level give runs that agree there in every cycle.
 abbrev pub LabelledAgree : Program → Type 0
-LabelledAgree p = (l : ℕ) (a b : List (List Tagged)) → StreamsAgree p.world.order l a b → RunsAgree p l (labelled_run p a) (labelled_run p b)
+LabelledAgree p = (l : ℕ) (a b : List (List Tagged)) → StreamsAgree p.world.order l a b
+    → RunsAgree p l (labelled_run p a) (labelled_run p b)
 
--- so it is in every fine program
+-- So it is in every fine program.
 abbrev pub OneCycle : Type 0
 OneCycle = (p : Program) → FineProgram p → CyclesAgree p
 

@@ -6,7 +6,7 @@ use Rattle.sap_meaning.specs.Store.{Store, After, child}
 use Rattle.sap_store.specs.declared.environment.Environment.{Environment}
 use Rattle.sap_store.specs.Code.{program_of}
 
--- the root's fall into its current child
+-- The root's fall into its current child.
 unfoldable pub fallen : Environment → Store → After
 fallen d s =
     let p = program_of d in

@@ -1,4 +1,5 @@
--- What a machine shows: its levels, its program, the state between cycles, and which check sites were refused in the last cycle.
+-- What a machine shows: its levels, its program, the state between cycles, and which check sites were refused in the
+-- last cycle.
 use Rattle.std.specs.Prelude.{ℕ, zero, suc, ◌≤◌, List, [], ◌∷◌, Option, Some, None, get_or, nat_eq, if◌then◌else◌}
 use Rattle.sap_lattice.specs.Levels.{Levels, order_of}
 use Rattle.sap_meaning.specs.Program.{Program}
@@ -11,7 +12,7 @@ use Rattle.sap_store.specs.Kept.{store_of}
 abbrev pub levels_of : MachineSeen → Levels
 levels_of m = m.lattice
 
--- over the order of these levels
+-- Over the order of these levels.
 abbrev pub program_of : MachineSeen → Program
 program_of m = program_in (order_of m.lattice) m.program
 
@@ -19,7 +20,7 @@ program_of m = program_in (order_of m.lattice) m.program
 abbrev pub state_of : MachineSeen → Store
 state_of m = store_of (program_of m).world m.store
 
--- how many check sites there are, which are numbered from 1
+-- How many check sites there are, which are numbered from 1.
 abbrev pub site_count_of : MachineSeen → ℕ
 site_count_of m = m.program.sites
 
@@ -27,7 +28,7 @@ site_count_of m = m.program.sites
 abbrev pub IsSite : MachineSeen → ℕ → Type 0
 IsSite m k = (1 ≤ k) × (k ≤ site_count_of m)
 
--- the level at which a site was refused in the last cycle, where it was
+-- The level at which a site was refused in the last cycle, where it was.
 abbrev pub refused_at : MachineSeen → ℕ → Option ℕ
 refused_at m k = get_or m.refusals k None
 
@@ -36,16 +37,16 @@ abbrev pub refusal_before : (site : ℕ) → Option ℕ → List Refusal → Lis
 refusal_before k None rs = rs
 refusal_before k (Some t) rs = record { site = k; level = t } ∷ rs
 
--- of the sites k, k + 1, .., as many as this, those that were refused
+-- Of the sites k, k + 1, .., as many as this, those that were refused.
 abbrev pub refusals_from : (level_at : ℕ → Option ℕ) → (k count : ℕ) → List Refusal
 refusals_from level_at k zero = []
 refusals_from level_at k (suc n) = refusal_before k (level_at k) (refusals_from level_at (suc k) n)
 
--- what was refused in the last cycle: each refused site once, with its level, by rising numbers
+-- What was refused in the last cycle: each refused site once, with its level, by rising numbers.
 abbrev pub refusals_of : MachineSeen → List Refusal
 refusals_of m = refusals_from (refused_at m) 1 (site_count_of m)
 
--- the level with which a site stands in a list, where it does
+-- The level with which a site stands in a list, where it does.
 abbrev pub refusal_of : List Refusal → ℕ → Option ℕ
 refusal_of [] k = None
 refusal_of (r ∷ rs) k = if nat_eq k r.site then Some r.level else refusal_of rs k

@@ -16,19 +16,20 @@ use Rattle.sap_store.specs.Kept.{Ready, store_of}
 abbrev pub meant : Levels → Program → meaning.Program
 meant ls p = program_in (order_of ls) p
 
--- the program can run, has what the laws of the labelled meaning ask for, and lists exactly what hangs; its check sites are numbered from 1
+-- The program can run, has what the laws of the labelled meaning ask for, and lists exactly what hangs; its check sites
+-- are numbered from 1.
 pub record IsSound (ls : Levels) (p : Program) : Type 0 where
   pub able : AbleGroup (meant ls p).world (meant ls p).states
   pub fine : FineProgram (meant ls p)
   pub exact : ExactProgram (meant ls p)
   pub sites : program_sites (meant ls p) ≡ numbers_from 1 p.sites
 
--- the state is one between cycles
+-- The state is one between cycles.
 pub record IsReady (ls : Levels) (p : Program) (s : Store) : Type 0 where
   pub kept : Ready (meant ls p).world s
   pub rests : Resting (meant ls p).world (store_of (meant ls p).world s)
 
--- a mark for each site, and one for 0
+-- A mark for each site, and one for 0.
 abbrev pub AreMarks : Program → List (Option ℕ) → Type 0
 AreMarks p marks = length marks ≡ p.sites + 1
 

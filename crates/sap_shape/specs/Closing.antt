@@ -73,8 +73,10 @@ abbrev mutual
   last_faults (lone k) after = last_simple_faults k after
   last_faults (try k place handler) after =
       last_simple_faults k after ++ last_handler_faults k (open_block_faults handler) (closing_faults handler)
-  last_faults (if_else place condition then_block else_block) after = closing_faults then_block ++ closing_else_faults else_block place
-  last_faults (try_then k place accepted refused) after = then_faults k place (closing_faults accepted ++ closing_faults refused)
+  last_faults (if_else place condition then_block else_block) after =
+      closing_faults then_block ++ closing_else_faults else_block place
+  last_faults (try_then k place accepted refused) after =
+      then_faults k place (closing_faults accepted ++ closing_faults refused)
   last_faults (case_of place e arms) after = closing_arms_faults arms
 
   -- Without `else` the fault is at the `if`.

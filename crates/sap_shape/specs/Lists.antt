@@ -33,7 +33,7 @@ list_shape es at cs = shape.list_shape es at (commands_of cs)
 unfoldable pub group_shape : List Entity → (group : List State) → (above : List (List ℕ)) → List State → List Fault
 group_shape es group above states = shape.states_shape es (states_of group) above (states_of states)
 
--- the memories of these names
+-- The memories of these names.
 unfoldable pub written_in : List (List ℕ) → Written
 written_in names m = is_in names m
 
@@ -93,6 +93,6 @@ unfoldable pub arms_sites : Surroundings → List Arm → List CheckSite
 arms_sites h [] = []
 arms_sites h (arm ∷ arms) = sites.block_sites h (arm_block_of arm) ++ arms_sites h arms
 
--- all faults of shape that are found in a design
+-- All faults of shape that are found in a design.
 abbrev pub shape_faults : DesignTree → List Fault
 shape_faults d = shape.states_shape (entities_of d) d.states [] d.states ++ paths.second_states d.states paths.fresh

@@ -20,10 +20,13 @@ Path = List SimpleCommand
 abbrev mutual
   pub Through : Command → Path → Type 0
   Through (lone k) path = path ≡ k ∷ []
-  Through (try k place handler) path = (path ≡ k ∷ []) ⊎ ((handled : Path) × ThroughBlock handler handled × (path ≡ k ∷ handled))
-  Through (if_else place condition then_block else_block) path = ThroughBlock then_block path ⊎ ThroughElse else_block path
+  Through (try k place handler) path = (path ≡ k ∷ [])
+      ⊎ ((handled : Path) × ThroughBlock handler handled × (path ≡ k ∷ handled))
+  Through (if_else place condition then_block else_block) path =
+      ThroughBlock then_block path ⊎ ThroughElse else_block path
   Through (try_then k place accepted refused) path =
-      ((behind : Path) × ThroughBlock accepted behind × (path ≡ k ∷ behind)) ⊎ ((behind : Path) × ThroughBlock refused behind × (path ≡ k ∷ behind))
+      ((behind : Path) × ThroughBlock accepted behind × (path ≡ k ∷ behind))
+      ⊎ ((behind : Path) × ThroughBlock refused behind × (path ≡ k ∷ behind))
   Through (case_of place e arms) path = ThroughArms arms path
 
   pub ThroughBlock : CommandBlock → Path → Type 0
@@ -40,7 +43,8 @@ abbrev mutual
   -- A path leads through one command after another.
   pub ThroughList : CommandList → Path → Type 0
   ThroughList no_command path = path ≡ []
-  ThroughList (and_command c cs) path = (first : Path) × (rest : Path) × Through c first × ThroughList cs rest × (path ≡ first ++ rest)
+  ThroughList (and_command c cs) path = (first : Path) × (rest : Path) × Through c first
+      × ThroughList cs rest × (path ≡ first ++ rest)
 
 -- This step is a `fall`.
 abbrev pub IsFall : SimpleCommand → Type 0
@@ -58,10 +62,12 @@ abbrev mutual
   UpToFall (lone k) path = IsFall k × (path ≡ k ∷ [])
   UpToFall (try k place handler) path =
       (IsFall k × (path ≡ k ∷ [])) ⊎ ((handled : Path) × UpToFallBlock handler handled × (path ≡ k ∷ handled))
-  UpToFall (if_else place condition then_block else_block) path = UpToFallBlock then_block path ⊎ UpToFallElse else_block path
+  UpToFall (if_else place condition then_block else_block) path =
+      UpToFallBlock then_block path ⊎ UpToFallElse else_block path
   UpToFall (try_then k place accepted refused) path =
       (IsFall k × (path ≡ k ∷ []))
-      ⊎ (((behind : Path) × UpToFallBlock accepted behind × (path ≡ k ∷ behind)) ⊎ ((behind : Path) × UpToFallBlock refused behind × (path ≡ k ∷ behind)))
+      ⊎ (((behind : Path) × UpToFallBlock accepted behind × (path ≡ k ∷ behind))
+      ⊎ ((behind : Path) × UpToFallBlock refused behind × (path ≡ k ∷ behind)))
   UpToFall (case_of place e arms) path = UpToFallArms arms path
 
   pub UpToFallBlock : CommandBlock → Path → Type 0
@@ -79,14 +85,16 @@ abbrev mutual
   pub UpToFallList : CommandList → Path → Type 0
   UpToFallList no_command path = ⊥
   UpToFallList (and_command c cs) path =
-      UpToFall c path ⊎ ((first : Path) × (rest : Path) × Through c first × UpToFallList cs rest × (path ≡ first ++ rest))
+      UpToFall c path ⊎ ((first : Path) × (rest : Path) × Through c first × UpToFallList cs rest
+      × (path ≡ first ++ rest))
 
 -- A path of one cycle from a state on: through its body, or up to a `fall` in it and on through a child.
 abbrev mutual
   -- From a state on: through its body, or up to a `fall` in it and then from any of its children on.
   pub FromState : StateTree → Path → Type 0
   FromState (state_node place name kind body children) path =
-      ThroughBlock body path ⊎ ((above : Path) × (below : Path) × UpToFallBlock body above × FromAny children below × (path ≡ above ++ below))
+      ThroughBlock body path ⊎ ((above : Path) × (below : Path) × UpToFallBlock body above
+      × FromAny children below × (path ≡ above ++ below))
 
   pub FromAny : StateList → Path → Type 0
   FromAny no_state path = ⊥
@@ -142,9 +150,10 @@ PathFault d f = (again : SimpleCommand) × WritesAgain d again × (f ≡ twice_a
 --     m[0] := 1; fall otherwise { m[1] := 2; goto P; }
 --     state C enforced low { goto C; } }
 
--- m[index] := value
+-- The text `m[index] := value`.
 abbrev pub put : (line column index value : ℕ) → SimpleCommand
-put l c index value = write (mention (on l c) (codes "m")) (literal (spot (on l (c + 2))) index) (literal (spot (on l (c + 8))) value)
+put l c index value = write (mention (on l c) (codes "m")) (literal (spot (on l (c + 2))) index)
+    (literal (spot (on l (c + 8))) value)
 
 -- A `goto` at a place, for examples.
 abbrev pub goto : (line column : ℕ) → (target : List ℕ) → SimpleCommand
@@ -158,22 +167,26 @@ low p = Enforced (mention p (codes "low")) None
 abbrev pub two_states : (parent child : CommandBlock) → DesignTree
 two_states parent child = record {
   version = One;
-  declarations = Memory (on 1 1) (mention (on 1 5) (codes "m")) (numeral_at (on 1 9) 8) (numeral_at (on 1 11) 4) (Dynamic (on 1 14)) ∷ [];
+  declarations = Memory (on 1 1) (mention (on 1 5) (codes "m")) (numeral_at (on 1 9) 8)
+      (numeral_at (on 1 11) 4) (Dynamic (on 1 14)) ∷ [];
   states = and_state (state_node (on 2 1) (mention (on 2 7) (codes "P")) (low (on 2 18)) parent
-      (and_state (state_node (on 4 1) (mention (on 4 7) (codes "C")) (low (on 4 18)) child no_state) no_state)) no_state;
+      (and_state (state_node (on 4 1) (mention (on 4 7) (codes "C")) (low (on 4 18)) child no_state) no_state))
+      no_state;
 }
 
 -- The state doesn't fall, and the child's body writes the memory twice.
 abbrev pub without_fall : DesignTree
 without_fall = two_states
     (command_block (and_command (lone (goto 3 1 (codes "P"))) no_command) (on 4 1))
-    (command_block (and_command (lone (put 4 24 0 1)) (and_command (lone (put 4 35 1 2)) (and_command (lone (goto 4 46 (codes "C"))) no_command))) (on 4 54))
+    (command_block (and_command (lone (put 4 24 0 1))
+    (and_command (lone (put 4 35 1 2)) (and_command (lone (goto 4 46 (codes "C"))) no_command))) (on 4 54))
 
 -- The state writes the memory, falls, and writes it again in the handler of the `fall`.
 abbrev pub with_handler : DesignTree
 with_handler = two_states
     (command_block (and_command (lone (put 3 1 0 1)) (and_command (try (fall_to_child (on 3 12)) (on 3 17)
-    (command_block (and_command (lone (put 3 29 1 2)) (and_command (lone (goto 3 40 (codes "P"))) no_command)) (on 3 48))) no_command)) (on 4 1))
+    (command_block (and_command (lone (put 3 29 1 2)) (and_command (lone (goto 3 40 (codes "P"))) no_command))
+    (on 3 48))) no_command)) (on 4 1))
     (command_block (and_command (lone (goto 4 24 (codes "C"))) no_command) (on 4 32))
 
 -- In the first no path enters C, so E14 stands nowhere.
@@ -182,4 +195,5 @@ NoneWithoutFall = (f : Fault) → PathFault without_fall f → ⊥
 
 -- In the second it stands at the write in the handler, and nowhere else.
 abbrev pub OneInHandler : Type 0
-OneInHandler = (f : Fault) → (PathFault with_handler f → f ≡ twice_at (on 3 29)) × (f ≡ twice_at (on 3 29) → PathFault with_handler f)
+OneInHandler = (f : Fault) → (PathFault with_handler f → f ≡ twice_at (on 3 29))
+    × (f ≡ twice_at (on 3 29) → PathFault with_handler f)

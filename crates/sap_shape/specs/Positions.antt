@@ -5,4 +5,12 @@ use Rattle.sap_shape.specs.ShapeFaults.{Body}
 
 -- The body that a position in the code stands for.
 abbrev pub body_of : Position → Body
-body_of p = record { home = record { name = p.name.now; kind = p.kind.now; children = states_of p.children.now }; group = states_of p.group.now; above = p.above.now }
+body_of p = record {
+  home = record {
+    name = p.name.now;
+    kind = p.kind.now;
+    children = states_of p.children.now;
+  };
+  group = states_of p.group.now;
+  above = p.above.now;
+}

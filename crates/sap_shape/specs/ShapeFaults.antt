@@ -72,7 +72,8 @@ then_shape es at k place =
 -- This is what a command has if its blocks have `below`; E15 is at an `otherwise` whose handler can never run.
 abbrev pub own_shape : List Entity → Body → Command → (below : List Fault) → List Fault
 own_shape es at (lone k) below = simple_shape es at k
-own_shape es at (try k place handler) below = simple_shape es at k ++ fault_if (not (is_site es at.home.kind at.home.children k)) E15 place ++ below
+own_shape es at (try k place handler) below =
+    simple_shape es at k ++ fault_if (not (is_site es at.home.kind at.home.children k)) E15 place ++ below
 own_shape es at (if_else place condition then_block else_block) below = below
 own_shape es at (try_then k place accepted refused) below = then_shape es at k place ++ below
 own_shape es at (case_of place e arms) below = below
@@ -102,7 +103,11 @@ abbrev mutual
   pub state_shape : List Entity → (group : StateList) → (above : List (List ℕ)) → StateTree → List Fault
   state_shape es group above (state_node place name kind body children) =
       closing_faults body
-      ++ block_shape es (record { home = home_of (state_node place name kind body children); group = group; above = above }) body
+      ++ block_shape es (record {
+        home = home_of (state_node place name kind body children);
+        group = group;
+        above = above;
+      }) body
       ++ states_shape es children (name.name ∷ above) children
 
   pub states_shape : List Entity → (group : StateList) → (above : List (List ℕ)) → StateList → List Fault
@@ -117,6 +122,6 @@ IsShapeFault d f = StandsIn f (states_shape (entities_of d) d.states [] d.states
 abbrev pub HasShape : DesignTree → Type 0
 HasShape d = (f : Fault) → IsShapeFault d f → ⊥
 
--- it stands, and before all others
+-- It stands, and before all others.
 abbrev pub IsFirstShapeFault : DesignTree → Fault → Type 0
 IsFirstShapeFault d f = IsShapeFault d f × ((other : Fault) → IsShapeFault d other → Before f other)

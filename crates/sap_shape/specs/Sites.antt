@@ -47,7 +47,8 @@ pub record CheckSite : Type 0 where
 
 -- A step by itself is a check site, or none.
 abbrev pub simple_sites : Surroundings → SimpleCommand → List CheckSite
-simple_sites h k = let s : CheckSite = record { surroundings = h; command = k } in if is_site h.entities h.home.kind h.home.children k then s ∷ [] else []
+simple_sites h k = let s : CheckSite = record { surroundings = h; command = k } in
+    if is_site h.entities h.home.kind h.home.children k then s ∷ [] else []
 
 -- The check sites of a command and of all commands in it, in the order of the text.
 abbrev pub command_sites : Surroundings → Command → List CheckSite

@@ -1,5 +1,5 @@
--- How E14 is looked for: which memories some path has written where it comes to a command. What is found so is what the paths say
--- (`Paths.antt`).
+-- How E14 is looked for: which memories some path has written where it comes to a command. What is found so is what the
+-- paths say (`Paths.antt`).
 use Rattle.std.specs.Prelude.{ℕ, List, [], ◌++◌, Bool, true, false, ◌||◌, if◌then◌else◌, bytes_eq}
 use Rattle.sap_tree.specs.Syntax.{SimpleCommand, assign, write, set_tag, set_cell_tag, go_to, fall_to_child, Command, lone, try, if_else, try_then, case_of, Arms, last_arm, and_arm, CommandBlock, command_block, ElseBlock, no_else, with_else, CommandList, no_command, and_command, StateTree, state_node, StateList, no_state, and_state}
 use Rattle.sap_tree.specs.Walks.{some, some_in_block, some_in_else, some_in_arms, some_in_list}
@@ -7,7 +7,7 @@ use Rattle.sap_names.specs.declared.fault.Fault.{Fault}
 use Rattle.sap_names.specs.declared.kind.Code.TheVariants.{E14}
 use Rattle.sap_names.specs.NameFaults.{fault_if}
 
--- the memories of which some path up to a place has written a cell, or set its tag
+-- The memories of which some path up to a place has written a cell, or set its tag.
 abbrev pub Written : Type 0
 Written = List ℕ → Bool
 
@@ -32,7 +32,7 @@ past_simple (set_cell_tag place target index tag) p = writing target.name p
 past_simple (go_to place target) p = p
 past_simple (fall_to_child place) p = p
 
--- up to each `fall`, where a child is entered
+-- Up to each `fall`, where a child is entered.
 abbrev pub entering_simple : SimpleCommand → Written → Written
 entering_simple (assign target e) p = fresh
 entering_simple (write target index e) p = fresh
@@ -41,7 +41,7 @@ entering_simple (set_cell_tag place target index tag) p = fresh
 entering_simple (go_to place target) p = fresh
 entering_simple (fall_to_child place) p = p
 
--- a second write of a memory on a path, at the command's first token
+-- A second write of a memory on a path, at the command's first token.
 abbrev pub second_simple : SimpleCommand → Written → List Fault
 second_simple (assign target e) p = []
 second_simple (write target index e) p = fault_if (p target.name) E14 target.place
@@ -50,13 +50,14 @@ second_simple (set_cell_tag place target index tag) p = fault_if (p target.name)
 second_simple (go_to place target) p = []
 second_simple (fall_to_child place) p = []
 
--- what is found in a part of a body
+-- What is found in a part of a body.
 pub record Found : Type 0 where
   pub past : Written
   pub entering : Written
   pub again : List Fault
 
--- Behind what paths have written before it: what they have written at its end, and up to each `fall` in it, and each second write.
+-- Behind what paths have written before it: what they have written at its end, and up to each `fall` in it, and each
+-- second write.
 abbrev pub Part : Type 0
 Part = Written → Found
 
@@ -64,19 +65,23 @@ Part = Written → Found
 abbrev pub nothing : Part
 nothing p = record { past = p; entering = fresh; again = [] }
 
--- one part and then another
+-- One part and then another.
 abbrev pub behind : Part → Part → Part
 behind f g p =
     let first = f p in
     let rest = g first.past in
     record { past = rest.past; entering = either first.entering rest.entering; again = first.again ++ rest.again }
 
--- either of two parts
+-- Either of two parts.
 abbrev pub branch : Part → Part → Part
 branch f g p =
     let one = f p in
     let other = g p in
-    record { past = either one.past other.past; entering = either one.entering other.entering; again = one.again ++ other.again }
+    record {
+      past = either one.past other.past;
+      entering = either one.entering other.entering;
+      again = one.again ++ other.again;
+    }
 
 -- A step as a part: what is written after it, what a state that it falls into is entered with, and the faults in it.
 abbrev pub simple : SimpleCommand → Part
@@ -88,7 +93,8 @@ abbrev mutual
   found (lone k) = simple k
   found (try k place handler) = behind (simple k) (branch nothing (found_in_block handler))
   found (if_else place condition then_block else_block) = branch (found_in_block then_block) (found_in_else else_block)
-  found (try_then k place accepted refused) = behind (simple k) (branch (found_in_block accepted) (found_in_block refused))
+  found (try_then k place accepted refused) =
+      behind (simple k) (branch (found_in_block accepted) (found_in_block refused))
   found (case_of place e arms) = found_in_arms arms
 
   pub found_in_block : CommandBlock → Part
@@ -106,7 +112,7 @@ abbrev mutual
   found_in_list no_command = nothing
   found_in_list (and_command c cs) = behind (found c) (found_in_list cs)
 
--- a `fall` stands in it
+-- A `fall` stands in it.
 abbrev pub is_fall : SimpleCommand → Bool
 is_fall (assign target e) = false
 is_fall (write target index e) = false
@@ -135,10 +141,12 @@ falls_arms arms = some_in_arms is_fall arms
 abbrev pub falls_list : CommandList → Bool
 falls_list list = some_in_list is_fall list
 
--- in a state that is entered after these, and in those that it may fall into
+-- In a state that is entered after these, and in those that it may fall into.
 abbrev mutual
   pub second_state : StateTree → Written → List Fault
-  second_state (state_node place name kind body children) p = (found_in_block body p).again ++ (if falls_block body then second_states children (found_in_block body p).entering else [])
+  second_state (state_node place name kind body children) p =
+      (found_in_block body p).again ++ (if falls_block body
+      then second_states children (found_in_block body p).entering else [])
 
   pub second_states : StateList → Written → List Fault
   second_states no_state p = []

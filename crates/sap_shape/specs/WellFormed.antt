@@ -12,7 +12,7 @@ pub record WellFormed (ls : Levels) (d : DesignTree) : Type 0 where
   pub names : design_name_faults ls.names (order_of ls).le d ≡ []
   pub shape : HasShape d
 
--- the first of the faults of names and widths, or, where none of these stands, the first of those of shape
+-- The first of the faults of names and widths, or, where none of these stands, the first of those of shape.
 abbrev pub IsFirstFault : Levels → DesignTree → Fault → Type 0
 IsFirstFault ls d f =
     First (Some f) (design_name_faults ls.names (order_of ls).le d)

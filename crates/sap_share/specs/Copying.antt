@@ -8,4 +8,5 @@ use Rattle.sap_net.specs.declared.parts.Right.TheVariants.{Copy}
 
 -- Each wire that is a port only copies what it shows.
 abbrev pub CopiesPorts : Net → Type 0
-CopiesPorts n = AllByRecursion (λ w. is_among w.name (map (λ p. p.name) n.ports) ≡ true → (a : Operand) × (w.right ≡ Copy a)) n.wires
+CopiesPorts n = AllByRecursion (λ w. is_among w.name (map (λ p. p.name) n.ports) ≡ true → (a : Operand)
+    × (w.right ≡ Copy a)) n.wires

@@ -3,11 +3,11 @@ use Rattle.std.specs.Prelude.{◌≡◌, List, [], ◌∷◌}
 use Rattle.std.specs.List.{AllByRecursion}
 use Rattle.sap_net.specs.declared.parts.Wire.{Wire}
 
--- it differs from each of them
+-- It differs from each of them.
 abbrev pub DiffersFrom : Wire → List Wire → Type 0
 DiffersFrom w ws = AllByRecursion (λ x. x.width ≡ w.width → x.right ≡ w.right → ⊥) ws
 
--- each differs from all behind it
+-- Each differs from all behind it.
 abbrev pub AllDiffer : List Wire → Type 0
 AllDiffer [] = Unit {0}
 AllDiffer (w ∷ ws) = DiffersFrom w ws × AllDiffer ws

@@ -4,7 +4,7 @@ use Rattle.std.specs.Option.{unwrap_or}
 use Rattle.sap_maps.specs.Maps.{Name}
 use Rattle.sap_share.specs.Sets.{holds}
 
--- the first byte of a name, 0 if it has none
+-- The first byte of a name, 0 if it has none.
 abbrev pub front : Name → ℕ
 front n = unwrap_or (slice_get n 0) 0
 
@@ -12,6 +12,6 @@ front n = unwrap_or (slice_get n 0) 0
 abbrev pub is_marked : List Bool → ℕ → Bool
 is_marked marks k = slice_index_or marks k false
 
--- the first byte of each name of a list has a mark
+-- The first byte of each name of a list has a mark.
 abbrev pub AreMarked : List Bool → List Name → Type 0
 AreMarked marks names = (n : Name) → holds names n ≡ true → is_marked marks (front n) ≡ true

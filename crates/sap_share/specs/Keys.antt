@@ -32,7 +32,7 @@ number2 Le = 9
 number2 Shl = 10
 number2 Shr = 11
 
--- the digits of a number in base 128, the least first, 128 added to each but the last; for a number of at most `most`
+-- The digits of a number in base 128, the least first, 128 added to each but the last; for a number of at most `most`.
 abbrev pub digits : (most n : ℕ) → List ℕ
 digits zero n = n ∷ []
 digits (suc most) n = if nat_lt n 128 then n ∷ [] else (128 + n % 128) ∷ digits most (n / 128)
@@ -41,7 +41,7 @@ digits (suc most) n = if nat_lt n 128 then n ∷ [] else (128 + n % 128) ∷ dig
 unfoldable pub number : ℕ → List ℕ
 number n = digits n n
 
--- a name with its length in front, or a number with its width
+-- A name with its length in front, or a number with its width.
 abbrev pub operand_bytes : Operand → List ℕ
 operand_bytes (Named x) = 0 ∷ number (length x) ++ x
 operand_bytes (Constant w n) = 1 ∷ number w ++ number n

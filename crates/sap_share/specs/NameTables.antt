@@ -9,6 +9,6 @@ use Rattle.sap_maps.specs.Maps.{Name}
 abbrev pub NameTable : Type 0 → Type 0
 NameTable X = HashMap Name X (BuildHasherDefault FoldHasher)
 
--- what the table has for a name
+-- What the table has for a name.
 abbrev pub of_name : {X : Type 0} → NameTable X → Name → Option X
 of_name m n = get_by (bytes_eq n) m

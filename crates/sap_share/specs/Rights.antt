@@ -10,7 +10,7 @@ use Rattle.sap_net.specs.declared.parts.Wire.{Wire}
 use Rattle.sap_share.specs.Keys.{key}
 use Rattle.sap_share.specs.Names.{helper}
 
--- the right sides, each with the name of its wire
+-- The right sides, each with the name of its wire.
 abbrev pub rights : List Wire → List (Name × Name)
 rights ws = map (λ w. (key w.width w.right, w.name)) ws
 
@@ -18,10 +18,10 @@ rights ws = map (λ w. (key w.width w.right, w.name)) ws
 abbrev pub RightMap : Type 0
 RightMap = HashMap (List ℕ) ℕ (BuildHasherDefault FoldHasher)
 
--- the name with the number that the map has for a right side
+-- The name with the number that the map has for a right side.
 abbrev pub at_key : RightMap → List ℕ → Option Name
 at_key m k = option_map helper (get_by (bytes_eq k) m)
 
--- each right side has the number in the name of its wire, and nothing else has one
+-- Each right side has the number in the name of its wire, and nothing else has one.
 abbrev pub NamesRights : RightMap → List Wire → Type 0
 NamesRights m ws = (k : List ℕ) → at_key m k ≡ find (rights ws) k

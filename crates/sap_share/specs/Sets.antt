@@ -7,6 +7,6 @@ use Rattle.sap_net.specs.Names.{is_among}
 abbrev pub holds : List Name → Name → Bool
 holds names n = is_among n names
 
--- the same names stand on both
+-- The same names stand on both.
 abbrev pub AreSame : List Name → List Name → Type 0
 AreSame xs ys = (n : Name) → holds xs n ≡ holds ys n

@@ -10,25 +10,30 @@ use Rattle.sap_tree.specs.declared.syntax.UnaryOperator.TheVariants as u
 use Rattle.sap_tree.specs.declared.version.Version.TheVariants.{One, Two}
 use Rattle.sap_show.specs.Canonical.{canonical_text}
 
--- input a:8;reg x:8 dynamic;state S enforced low{x:=(a+1)&(a|x);goto S;}
+-- The text `input a:8;reg x:8 dynamic;state S enforced low{x:=(a+1)&(a|x);goto S;}`.
 abbrev pub adder : DesignTree
 adder = record {
   version = One;
-  declarations = d.Input nowhere (named (codes "a")) (numeral 8) ∷ d.Register nowhere (named (codes "x")) (numeral 8) (k.Dynamic nowhere) None ∷ [];
-  states = and_state (state_node nowhere (named (codes "S")) (enforced (codes "low")) (block (lone (assign (named (codes "x"))
-      (binary_of no_spot b.And (binary_of no_spot b.Add (read (codes "a")) (number 1)) (binary_of no_spot b.Or (read (codes "a")) (read (codes "x"))))) ∷ lone (go_to nowhere (named (codes "S"))) ∷ []))
+  declarations = d.Input nowhere (named (codes "a")) (numeral 8)
+      ∷ d.Register nowhere (named (codes "x")) (numeral 8) (k.Dynamic nowhere) None ∷ [];
+  states = and_state (state_node nowhere (named (codes "S")) (enforced (codes "low"))
+      (block (lone (assign (named (codes "x"))
+      (binary_of no_spot b.And (binary_of no_spot b.Add (read (codes "a")) (number 1))
+          (binary_of no_spot b.Or (read (codes "a")) (read (codes "x")))))
+          ∷ lone (go_to nowhere (named (codes "S"))) ∷ []))
       no_state) no_state;
 }
 
 -- The canonical text of a design of one input, one register and one state.
 abbrev pub Adder : Type 0
-Adder = canonical_text adder ≡ codes "input a : 8;\nreg x : 8 dynamic;\nstate S enforced low {\n  x := a + 1 & (a | x);\n  goto S;\n}\n"
+Adder = canonical_text adder ≡ codes "input a : 8;\nreg x : 8 dynamic;\nstate S enforced low {\n  x := a
+    + 1 & (a | x);\n  goto S;\n}\n"
 
--- the four low bits of x
+-- The four low bits of x.
 abbrev pub low_bits : Expression
 low_bits = slice no_spot (read (codes "x")) 3 0
 
--- a command that stores a cell, and one that chooses, with an empty handler
+-- A command that stores a cell, and one that chooses, with an empty handler.
 abbrev pub stores : Command
 stores = lone (write (named (codes "m")) (read (codes "i")) (zero_extend no_spot low_bits 8))
 
@@ -53,15 +58,18 @@ nested = record {
   version = One;
   declarations = d.Input nowhere (named (codes "i")) (numeral 8)
       ∷ d.Register nowhere (named (codes "x")) (numeral 8)
-      (k.Enforced (named (codes "low")) (Some (record { place = nowhere; level = named (codes "low") }))) (Some (numeral 7))
+      (k.Enforced (named (codes "low")) (Some (record { place = nowhere; level = named (codes "low") })))
+          (Some (numeral 7))
       ∷ d.Memory nowhere (named (codes "m")) (numeral 8) (numeral 4) (k.Dynamic nowhere) ∷ [];
   states = and_state (state_node nowhere (named (codes "S")) (k.Dynamic nowhere)
-      (block (if_else nowhere (binary_of no_spot b.Lt (read (codes "i")) (number 3)) (block (stores ∷ [])) (with_else (block (chooses ∷ []))) ∷ retags ∷ []))
-      (and_state (state_node nowhere (named (codes "T")) (enforced (codes "high")) (block (lone (go_to nowhere (named (codes "T"))) ∷ [])) no_state) no_state))
+      (block (if_else nowhere (binary_of no_spot b.Lt (read (codes "i")) (number 3))
+          (block (stores ∷ [])) (with_else (block (chooses ∷ []))) ∷ retags ∷ []))
+      (and_state (state_node nowhere (named (codes "T")) (enforced (codes "high"))
+          (block (lone (go_to nowhere (named (codes "T"))) ∷ [])) no_state) no_state))
       no_state;
 }
 
--- each line with its end
+-- Each line with its end.
 abbrev pub lines : List (List ℕ) → List ℕ
 lines [] = []
 lines (line ∷ rest) = line ++ (codes "\n" ++ lines rest)
@@ -89,22 +97,26 @@ Nested = canonical_text nested
     ∷ codes "}"
     ∷ [])
 
--- a command of the second version that stores, and one that looks at a number, in a block of the first
+-- A command of the second version that stores, and one that looks at a number, in a block of the first.
 abbrev pub looks : Command
 looks = case_of nowhere (read (codes "a"))
-    (and_arm (and_part (number 0) (and_part (sized_literal no_spot 2 3) no_part)) (block (lone (assign (named (codes "x")) (number 7)) ∷ []))
-    (and_arm (and_part (number 1) no_part) (block []) (last_arm (block (lone (go_to nowhere (named (codes "S"))) ∷ [])))))
+    (and_arm (and_part (number 0) (and_part (sized_literal no_spot 2 3) no_part))
+        (block (lone (assign (named (codes "x")) (number 7)) ∷ []))
+    (and_arm (and_part (number 1) no_part) (block [])
+        (last_arm (block (lone (go_to nowhere (named (codes "S"))) ∷ [])))))
 
 -- An assignment with a block for each outcome.
 abbrev pub decides : Command
-decides = try_then (assign (named (codes "y")) (read (codes "a"))) nowhere (block (looks ∷ [])) (block (lone (fall_to_child nowhere) ∷ []))
+decides = try_then (assign (named (codes "y")) (read (codes "a"))) nowhere (block (looks ∷ []))
+    (block (lone (fall_to_child nowhere) ∷ []))
 
 -- A design of version 2 with the two commands that version 1 hasn't.
 abbrev pub second : DesignTree
 second = record {
   version = Two;
   declarations = d.Input nowhere (named (codes "a")) (numeral 2) ∷ [];
-  states = and_state (state_node nowhere (named (codes "S")) (enforced (codes "low")) (block (decides ∷ [])) no_state) no_state;
+  states = and_state (state_node nowhere (named (codes "S")) (enforced (codes "low"))
+      (block (decides ∷ [])) no_state) no_state;
 }
 
 -- The canonical text of the design of version 2.

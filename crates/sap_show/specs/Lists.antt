@@ -14,8 +14,9 @@ list_text margin commands = commands_text margin (commands_of commands)
 unfoldable pub group_text : List ℕ → List State → List ℕ
 group_text margin states = states_text margin (states_of states)
 
--- the arms of a `case`, without the block after `else`
+-- The arms of a `case`, without the block after `else`.
 unfoldable pub list_arms_text : List ℕ → List Arm → List ℕ
 list_arms_text margin [] = []
 list_arms_text margin (arm ∷ arms) =
-    margin ++ (parts_text (constants_of arm) ++ (codes ":" ++ (block_text margin (arm_block_of arm) ++ (codes "\n" ++ list_arms_text margin arms))))
+    margin ++ (parts_text (constants_of arm)
+    ++ (codes ":" ++ (block_text margin (arm_block_of arm) ++ (codes "\n" ++ list_arms_text margin arms))))

@@ -10,7 +10,8 @@ use Rattle.sap_tree.specs.Bare.{bare}
 use Rattle.sap_tree.specs.Syntax.{DesignTree}
 use Rattle.sap_tree.specs.Whole.{is_whole}
 
--- the tokens of the text are a design that is the same as this one, places aside, and none of them breaks a limit; of the text's bytes nothing is asked
+-- The tokens of the text are a design that is the same as this one, places aside, and none of them breaks a limit; of
+-- the text's bytes nothing is asked.
 pub record ReadsAs (text : List ℕ) (design : DesignTree) : Type 0 where
   pub tokens : List Token
   pub lexed : AreTokens text tokens
@@ -18,14 +19,15 @@ pub record ReadsAs (text : List ℕ) (design : DesignTree) : Type 0 where
   pub whole : IsDesign tokens tree
   pub same : bare tree ≡ bare design
 
--- a text within the limit on its bytes is a design that is the same as this one, places aside
+-- A text within the limit on its bytes is a design that is the same as this one, places aside.
 abbrev pub IsTextOfSame : List ℕ → DesignTree → Type 0
 IsTextOfSame text design = length text ≤ most_bytes → (tree : DesignTree) × IsText text tree × (bare tree ≡ bare design)
 
--- designs that are the same, places aside, have one canonical text
+-- Designs that are the same, places aside, have one canonical text.
 abbrev pub PlacesAside : Type 0
 PlacesAside = (one other : DesignTree) → bare one ≡ bare other → canonical_text one ≡ canonical_text other
 
--- the design that a canonical text is has this canonical text
+-- The design that a canonical text is has this canonical text.
 abbrev pub ShownAgain : Type 0
-ShownAgain = (design tree : DesignTree) → IsTrue (is_whole design) → IsText (canonical_text design) tree → canonical_text tree ≡ canonical_text design
+ShownAgain = (design tree : DesignTree) → IsTrue (is_whole design) → IsText (canonical_text design) tree
+    → canonical_text tree ≡ canonical_text design

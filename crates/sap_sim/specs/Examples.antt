@@ -1,4 +1,5 @@
--- A worked example: a netlist with a tagged input, whose tag comes first, a plain input, a register with a tag and one without.
+-- A worked example: a netlist with a tagged input, whose tag comes first, a plain input, a register with a tag and one
+-- without.
 use Rattle.std.specs.Prelude.{◌≡◌, ℕ, List, [], ◌∷◌, codes}
 use Rattle.sap_lattice.specs.Examples.{low_high}
 use Rattle.sap_meaning.specs.Cycle.{Tagged as Given}
@@ -61,7 +62,7 @@ given number level = record { number = number; level = level }
 abbrev pub Fields : Type 0
 Fields = fields_of low_high small ≡ Tagged 8 ∷ Plain 4 ∷ []
 
--- the line `5@high 3`: 1 is the code of high
+-- The line `5@high 3`: 1 is the code of high.
 abbrev pub Numbers : Type 0
 Numbers = numbers_of low_high small (given 5 1 ∷ given 3 0 ∷ []) ≡ 1 ∷ 5 ∷ 3 ∷ []
 

@@ -19,7 +19,8 @@ use Rattle.sap_sim.specs.Numbers.{place, field_names, nothing, value_for}
 -- Where an input's number comes from: the number of a field, or its level's code.
 abbrev pub source_of : (tag : ℕ) → List Input → Input → Source
 source_of tag is i =
-    if is_tag tag is i then Code (place (field_names tag is) (value_for i.name)) else Value (place (field_names tag is) i.name)
+    if is_tag tag is i then Code (place (field_names tag is) (value_for i.name))
+    else Value (place (field_names tag is) i.name)
 
 -- The field that a source reads.
 abbrev pub source_place : Source → ℕ
@@ -31,16 +32,17 @@ abbrev pub number_from : Levels → List Given → Source → ℕ
 number_from ls xs (Value k) = (get_or xs k nothing).number
 number_from ls xs (Code k) = code_of (order_of ls) (get_or xs k nothing).level
 
--- the places of these names
+-- The places of these names.
 pub record ArePlaces (n : Net) (names : List Name) (places : List ℕ) : Type 0 where
   pub within : All (λ k. k < length (value_names n)) places
   pub names_are : map (λ k. get_or (value_names n) k []) places ≡ names
 
--- the numbers that are seen at places
+-- The numbers that are seen at places.
 abbrev pub seen_at : Net → Valuation → List ℕ → List ℕ
 seen_at n v places = map (λ k. v.value (get_or (value_names n) k [])) places
 
--- The plan of a netlist: the sources of the numbers of its inputs, and the registers that rows show, with the places of their numbers and tags, and texts of levels.
+-- The plan of a netlist: the sources of the numbers of its inputs, and the registers that rows show, with the places of
+-- their numbers and tags, and texts of levels.
 pub record IsPlan (ls : Levels) (n : Net) (p : Plan) : Type 0 where
   pub sources : p.sources.items ≡ map (source_of (tag_width ls) n.inputs) n.inputs
   pub names : p.shown.names.items ≡ shown_registers ls n

@@ -11,17 +11,17 @@ use Rattle.sap_sim.specs.Fields.{fields_of}
 use Rattle.sap_sim.specs.Numbers.{numbers_of}
 use Rattle.sap_sim.specs.Shown.{shown_registers, rows_from}
 
--- the rows of the cycles before the first refused line of a stimulus, and that line, where there is one
+-- The rows of the cycles before the first refused line of a stimulus, and that line, where there is one.
 pub record Rows : Type 0 where
   pub text : List ℕ
   pub fault : Option StimFault
 
--- what the bytes of a stimulus are to a netlist
+-- What the bytes of a stimulus are to a netlist.
 abbrev pub read_for : Levels → Net → List ℕ → Parsed
 read_for ls n bytes = stimulus_of ls (fields_of ls n) bytes
 
--- The fault is that of the stimulus, and the text has the rows of what is seen of the netlist's run on the lines before it, its cycles counted from 1. A netlist
--- has one run on each list of inputs.
+-- The fault is that of the stimulus, and the text has the rows of what is seen of the netlist's run on the lines before
+-- it, its cycles counted from 1. A netlist has one run on each list of inputs.
 pub record IsSimulated (ls : Levels) (n : Net) (bytes : List ℕ) (rows : Rows) : Type 0 where
   pub fault : rows.fault ≡ (read_for ls n bytes).fault
   pub run : List Valuation

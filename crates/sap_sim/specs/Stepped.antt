@@ -20,29 +20,34 @@ pub record Stepped (Plan : Type 0) : Type 0 where
   -- for how many bytes a buffer needs room to take what is told of any cycle
   pub room : ℕ
 
--- a run of a netlist on these lines, on each of which its inputs get these numbers
+-- A run of a netlist on these lines, on each of which its inputs get these numbers.
 abbrev pub IsRunOn : Net → (numbers : List Given → List ℕ) → (lines : List (List Given)) → List Valuation → Type 0
 IsRunOn n numbers lines run = IsRun n (map numbers lines) run
 
--- the runner shows the last cycle of a run on these lines
+-- The runner shows the last cycle of a run on these lines.
 abbrev pub ShowsLast : Net → (numbers : List Given → List ℕ) → (lines : List (List Given)) → Running → Type 0
 ShowsLast n numbers lines r = (run : List Valuation) → IsRunOn n numbers lines run → Shows r (last_or None run)
 
 -- It is this netlist, stepped on these lines.
-pub record IsAfter {Plan : Type 0} (IsPlanned : Stepped Plan → Type 0) (n : Net) (numbers : List Given → List ℕ) (lines : List (List Given)) (s : Stepped Plan) : Type 0 where
+pub record IsAfter {Plan : Type 0} (IsPlanned : Stepped Plan → Type 0) (n : Net) (numbers : List Given
+    → List ℕ) (lines : List (List Given)) (s : Stepped Plan) : Type 0 where
   pub net : s.runner.net ≡ n
   pub planned : IsPlanned s
   pub shows : ShowsLast n numbers lines s.runner
 
--- behind the old bytes stand others, at most so many
+-- Behind the old bytes stand others, at most so many.
 abbrev pub HasMore : (most : ℕ) → (old now : List ℕ) → Type 0
 HasMore most old now = (more : List ℕ) × (now ≡ old ++ more) × (length more ≤ most)
 
--- behind the old bytes stands what is told of the last of these lines
-abbrev pub TellsMore : (tell : (cycle : ℕ) → Valuation → List ℕ) → Net → (numbers : List Given → List ℕ) → (lines : List (List Given)) → (cycle : ℕ) → (old now : List ℕ) → Type 0
+-- Behind the old bytes stands what is told of the last of these lines.
+abbrev pub TellsMore : (tell : (cycle : ℕ) → Valuation → List ℕ) → Net → (numbers : List Given → List ℕ)
+    → (lines : List (List Given)) → (cycle : ℕ) → (old now : List ℕ) → Type 0
 TellsMore tell n numbers lines cycle old now =
-    (run : List Valuation) (v : Valuation) → IsRunOn n numbers lines (run ++ v ∷ []) → now ≡ old ++ tell cycle (observed n v)
+    (run : List Valuation) (v : Valuation) → IsRunOn n numbers lines (run ++ v ∷ [])
+    → now ≡ old ++ tell cycle (observed n v)
 
--- what is told of all these lines, their cycles counted from 1
-abbrev pub TellsAll : (tell : (cycle : ℕ) → Valuation → List ℕ) → Net → (numbers : List Given → List ℕ) → (lines : List (List Given)) → (text : List ℕ) → Type 0
-TellsAll tell n numbers lines text = (run : List Valuation) → IsRunOn n numbers lines run → text ≡ told_from tell 1 (map (observed n) run)
+-- What is told of all these lines, their cycles counted from 1.
+abbrev pub TellsAll : (tell : (cycle : ℕ) → Valuation → List ℕ) → Net → (numbers : List Given → List ℕ)
+    → (lines : List (List Given)) → (text : List ℕ) → Type 0
+TellsAll tell n numbers lines text = (run : List Valuation) → IsRunOn n numbers lines run
+    → text ≡ told_from tell 1 (map (observed n) run)

@@ -5,7 +5,7 @@ use Rattle.sap_lattice.specs.Levels.{Levels}
 use Rattle.sap_net.specs.Net.{Net}
 use Rattle.sap_size.specs.Trees.{design_nodes, entity_count}
 
--- `assign` items, one for each wire, and `always` items, one for each register and each memory
+-- `assign` items, one for each wire, and `always` items, one for each register and each memory.
 abbrev pub items : Net → ℕ
 items n = length n.wires + length n.registers + length n.memories
 

@@ -22,12 +22,12 @@ step_size (retag_cell site m j n) = term_size j + level_size n
 step_size (go_to site target) = 0
 step_size (fall_to_child site hang) = 0
 
--- the constants of a `case`
+-- The constants of a `case`.
 abbrev pub constant_count : Arms → ℕ
 constant_count (last_arm b) = 0
 constant_count (and_arm constants b arms) = length constants + constant_count arms
 
--- a command where its blocks have so many: a step with its handler is one
+-- A command where its blocks have so many: a step with its handler is one.
 abbrev pub own_size : Command → (below : ℕ) → ℕ
 own_size (lone s) below = 1 + step_size s
 own_size (try s hang h) below = 1 + step_size s + below
@@ -39,7 +39,7 @@ own_size (case_of hang e arms) below = 1 + term_size e + constant_count arms + b
 abbrev pub command_size : Command → ℕ
 command_size c = folded 0 ◌+◌ own_size c
 
--- the blocks of arms
+-- The blocks of arms.
 abbrev pub arms_size : Arms → ℕ
 arms_size arms = folded_in_arms 0 ◌+◌ own_size arms
 
@@ -59,7 +59,7 @@ state_size t = gathered_from 0 ◌+◌ body_size t
 abbrev pub group_size : Group → ℕ
 group_size g = gathered_from_group 0 ◌+◌ body_size g
 
--- how many states a group has, those below them counted
+-- How many states a group has, those below them counted.
 abbrev pub states_of : State → ℕ
 states_of t = gathered_from 0 ◌+◌ (λ s. 1) t
 

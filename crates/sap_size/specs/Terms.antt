@@ -36,7 +36,7 @@ same_two Shl Shl = true
 same_two Shr Shr = true
 same_two _ _ = false
 
--- the same expression
+-- The same expression.
 abbrev pub same_term : Term Name → Term Name → Bool
 same_term (constant w x) (constant u y) = w == u && x == y
 same_term (read m) (read n) = bytes_eq m n
@@ -48,7 +48,7 @@ same_term (join a b) (join x y) = same_term a x && same_term b y
 same_term (part a hi lo) (part x high low) = same_term a x && (hi == high && lo == low)
 same_term _ _ = false
 
--- what is an operator or a read of a memory in it, with all that stands below
+-- What is an operator or a read of a memory in it, with all that stands below.
 abbrev pub operations_in : Term Name → List (Term Name)
 operations_in (constant w x) = []
 operations_in (read n) = []
@@ -63,7 +63,7 @@ operations_in (part a hi lo) = part a hi lo ∷ operations_in a
 abbrev pub operations : Term Name → ℕ
 operations t = distinct_count same_term (operations_in t)
 
--- its nodes; what is joined counts by its parts alone
+-- Its nodes; what is joined counts by its parts alone.
 abbrev pub term_size : {N : Type 0} → Term N → ℕ
 term_size (constant w x) = 1
 term_size (read n) = 1

@@ -4,8 +4,8 @@ use Rattle.sap_tree.specs.Syntax.{Expression, Expressions, literal, sized_litera
 use Rattle.sap_tree.specs.Walks.{folded, folded_in_block, folded_in_else, folded_in_arms, folded_in_list, body_of, gathered_from, gathered_from_list}
 use Rattle.sap_tree.specs.Whole.{states_count}
 
--- The nodes of expressions, tag expressions, commands and states. A command with its handler is one node beside the nodes of the handler, and
--- so is a command with its two blocks. A constant of a `case` is an expression.
+-- The nodes of expressions, tag expressions, commands and states. A command with its handler is one node beside the
+-- nodes of the handler, and so is a command with its two blocks. A constant of a `case` is an expression.
 
 -- The nodes of an expression, and of the parts of a concatenation.
 abbrev mutual
@@ -37,7 +37,7 @@ abbrev mutual
   tag_part_nodes no_tag = 0
   tag_part_nodes (and_tag x parts) = tag_nodes x + tag_part_nodes parts
 
--- what stands in a command that can have a handler
+-- What stands in a command that can have a handler.
 abbrev pub operand_nodes : SimpleCommand → ℕ
 operand_nodes (assign register x) = expression_nodes x
 operand_nodes (write memory index x) = expression_nodes index + expression_nodes x
@@ -46,12 +46,12 @@ operand_nodes (set_cell_tag place memory index n) = expression_nodes index + tag
 operand_nodes (go_to place target) = 0
 operand_nodes (fall_to_child place) = 0
 
--- those of the arms' constants
+-- Those of the arms' constants.
 abbrev pub constant_nodes : Arms → ℕ
 constant_nodes (last_arm block) = 0
 constant_nodes (and_arm constants block arms) = part_nodes constants + constant_nodes arms
 
--- those of a command where its blocks have so many
+-- Those of a command where its blocks have so many.
 abbrev pub own_nodes : Command → (below : ℕ) → ℕ
 own_nodes (lone c) below = 1 + operand_nodes c
 own_nodes (try c place handler) below = 1 + operand_nodes c + below
@@ -71,7 +71,7 @@ block_nodes block = folded_in_block 0 ◌+◌ own_nodes block
 abbrev pub else_nodes : ElseBlock → ℕ
 else_nodes other = folded_in_else 0 ◌+◌ own_nodes other
 
--- those of the arms' blocks
+-- Those of the arms' blocks.
 abbrev pub arms_nodes : Arms → ℕ
 arms_nodes arms = folded_in_arms 0 ◌+◌ own_nodes arms
 
@@ -91,6 +91,6 @@ states_nodes states = gathered_from_list 0 ◌+◌ (λ s. 1 + block_nodes (body_
 abbrev pub design_nodes : DesignTree → ℕ
 design_nodes d = states_nodes d.states
 
--- its inputs, registers, memories and states
+-- Its inputs, registers, memories and states.
 abbrev pub entity_count : DesignTree → ℕ
 entity_count d = length d.declarations + states_count d.states

@@ -38,7 +38,8 @@ Empty = read [] ≡ ends []
 abbrev pub TwoLines : Type 0
 TwoLines = read (line (codes "5@low") ++ line (codes "255@high")) ≡ ends (given 5 0 ∷ given 255 1 ∷ [])
 
--- the last line has no LF; the value of the second line isn't below 256; an unknown level; no level; a missing field; one too many
+-- The last line has no LF; the value of the second line isn't below 256; an unknown level; no level; a missing field;
+-- one too many.
 abbrev pub NotEnded : Type 0
 NotEnded = read (codes "5@low") ≡ stops [] 1 S5
 
@@ -62,7 +63,7 @@ NoField = read (line []) ≡ stops [] 1 S4
 abbrev pub TrailingSpace : Type 0
 TrailingSpace = read (line (codes "5@low ")) ≡ stops [] 1 S4
 
--- the first `@` ends the value; a plain field has none
+-- The first `@` ends the value; a plain field has none.
 abbrev pub TwoMarks : Type 0
 TwoMarks = read (line (codes "5@low@")) ≡ stops [] 1 S3
 
@@ -74,9 +75,11 @@ PlainField = stimulus_of low_high (Plain 8 ∷ []) (line (codes "7")) ≡ ends (
 abbrev pub MarkedPlain : Type 0
 MarkedPlain = stimulus_of low_high (Plain 8 ∷ []) (line (codes "7@low")) ≡ stops [] 1 S1
 
--- two fields; with two spaces between them the line has three, of which the middle one is empty: S4 where two are asked for, S1 where three are
+-- Two fields; with two spaces between them the line has three, of which the middle one is empty: S4 where two are asked
+-- for, S1 where three are.
 abbrev pub TwoFields : Type 0
-TwoFields = stimulus_of low_high (Tagged 8 ∷ Plain 1 ∷ []) (line (codes "5@high 1")) ≡ ends ((input 5 1 ∷ input 1 0 ∷ []) ∷ [])
+TwoFields = stimulus_of low_high (Tagged 8 ∷ Plain 1 ∷ []) (line (codes "5@high 1"))
+    ≡ ends ((input 5 1 ∷ input 1 0 ∷ []) ∷ [])
 
 -- Two spaces make a field too many: S4.
 abbrev pub TwoSpaces : Type 0
@@ -86,7 +89,7 @@ TwoSpaces = stimulus_of low_high (Tagged 8 ∷ Tagged 8 ∷ []) (line (codes "5@
 abbrev pub EmptyField : Type 0
 EmptyField = stimulus_of low_high (Tagged 8 ∷ Tagged 8 ∷ Tagged 8 ∷ []) (line (codes "5@low  5@low")) ≡ stops [] 1 S1
 
--- 21 digits are no value, 20 are one
+-- A number of 21 digits is no value, one of 20 digits is one.
 abbrev pub TooLong : Type 0
 TooLong = read (line (codes "000000000000000000005@low")) ≡ stops [] 1 S1
 
@@ -94,11 +97,12 @@ TooLong = read (line (codes "000000000000000000005@low")) ≡ stops [] 1 S1
 abbrev pub LongEnough : Type 0
 LongEnough = read (line (codes "00000000000000000005@low")) ≡ ends (given 5 0 ∷ [])
 
--- a line that stands for three cycles, and one behind it
+-- A line that stands for three cycles, and one behind it.
 abbrev pub Counted : Type 0
-Counted = read (line (codes "5@low *3") ++ line (codes "7@high")) ≡ ends (given 5 0 ∷ given 5 0 ∷ given 5 0 ∷ given 7 1 ∷ [])
+Counted = read (line (codes "5@low *3") ++ line (codes "7@high"))
+    ≡ ends (given 5 0 ∷ given 5 0 ∷ given 5 0 ∷ given 7 1 ∷ [])
 
--- no cycle; more than 65,535; no digits; six digits; behind it a line that isn't read
+-- No cycle; more than 65,535; no digits; six digits; behind it a line that isn't read.
 abbrev pub NoCycle : Type 0
 NoCycle = read (line (codes "5@low") ++ line (codes "5@low *0") ++ line (codes "5@low")) ≡ stops (given 5 0 ∷ []) 2 S6
 
@@ -118,7 +122,7 @@ SixDigits = read (line (codes "5@low *000001")) ≡ stops [] 1 S6
 abbrev pub FiveDigits : Type 0
 FiveDigits = read (line (codes "5@low *00002")) ≡ ends (given 5 0 ∷ given 5 0 ∷ [])
 
--- the faults of fields and of their number come before that of a count, which is no field
+-- The faults of fields and of their number come before that of a count, which is no field.
 abbrev pub FieldFirst : Type 0
 FieldFirst = read (line (codes "256@low *0")) ≡ stops [] 1 S2
 
@@ -138,13 +142,14 @@ CountBehindSpace = read (line (codes " *2")) ≡ stops [] 1 S1
 abbrev pub TwoCounts : Type 0
 TwoCounts = read (line (codes "5@low *2 *2")) ≡ stops [] 1 S4
 
--- without inputs a line is empty or a count alone
+-- Without inputs a line is empty or a count alone.
 abbrev pub NoInputs : Type 0
 NoInputs = stimulus_of low_high [] (line [] ++ line (codes "*2")) ≡ ends ([] ∷ [] ∷ [] ∷ [])
 
--- 0 is the code of low and 1 that of high; 3 is none
+-- The code 0 is that of low, 1 is that of high, and 3 is none.
 abbrev pub Row : Type 0
-Row = row_text 1 (record { name = codes "x"; value = 6; level = Some (codes "low"); tag = 0 } ∷ record { name = codes "y"; value = 0; level = None; tag = 3 } ∷ [])
+Row = row_text 1 (record { name = codes "x"; value = 6; level = Some (codes "low"); tag = 0 }
+    ∷ record { name = codes "y"; value = 0; level = None; tag = 3 } ∷ [])
     ≡ line (codes "cycle 1: x=6@low y=0@#3")
 
 -- A row shows a code that is no level by its number.

@@ -13,13 +13,13 @@ abbrev pub is_plain : Field → Bool
 is_plain (Tagged width) = false
 is_plain (Plain width) = true
 
--- a number within the width, and a level, which of a plain field is bottom
+-- A number within the width, and a level, which of a plain field is bottom.
 pub record InputFits (ls : Levels) (f : Field) (x : Given) : Type 0 where
   pub value : x.number < 2 ^ field_width f
   pub level : x.level < (order_of ls).count
   pub bottom : is_plain f ≡ true → x.level ≡ (order_of ls).bottom
 
--- one input for each field
+-- One input for each field.
 abbrev pub LineFits : Levels → List Field → List Given → Type 0
 LineFits ls = AllZip (InputFits ls)
 
@@ -27,6 +27,7 @@ LineFits ls = AllZip (InputFits ls)
 abbrev pub StreamFits : Levels → List Field → List (List Given) → Type 0
 StreamFits ls fs stream = AllByRecursion (LineFits ls fs) stream
 
--- where bottom is a level, what is read of a stimulus fits
+-- Where bottom is a level, what is read of a stimulus fits.
 abbrev pub StimulusFits : Type 0
-StimulusFits = (ls : Levels) (fs : List Field) (bytes : List ℕ) → (order_of ls).bottom < (order_of ls).count → StreamFits ls fs (stimulus_of ls fs bytes).stream
+StimulusFits = (ls : Levels) (fs : List Field) (bytes : List ℕ)
+    → (order_of ls).bottom < (order_of ls).count → StreamFits ls fs (stimulus_of ls fs bytes).stream

@@ -13,7 +13,7 @@ use Rattle.sap_stim.specs.declared.fault.StimCode.TheVariants.{S1, S2, S3, S4, S
 use Rattle.sap_stim.specs.declared.field.Field.{Field}
 use Rattle.sap_stim.specs.declared.field.Field.TheVariants.{Tagged, Plain}
 
--- the width of a field's value, from 1 to 64
+-- The width of a field's value, from 1 to 64.
 abbrev pub field_width : Field → ℕ
 field_width (Tagged width) = width
 field_width (Plain width) = width
@@ -22,17 +22,17 @@ field_width (Plain width) = width
 abbrev pub IsSized : Field → Type 0
 IsSized f = (1 ≤ field_width f) × (field_width f ≤ 64)
 
--- the pieces of a line: split at each space, an empty line has none
+-- The pieces of a line: split at each space, an empty line has none.
 abbrev pub pieces_of : List ℕ → List (List ℕ)
 pieces_of [] = []
 pieces_of (b ∷ bs) = split_at (byte " ") (b ∷ bs)
 
--- begins with `*`
+-- Begins with `*`.
 abbrev pub is_starred : List ℕ → Bool
 is_starred [] = false
 is_starred (b ∷ bs) = b == byte "*"
 
--- the pieces that are fields: all, but for a last one that begins with `*`
+-- The pieces that are fields: all, but for a last one that begins with `*`.
 abbrev pub fields_in : List (List ℕ) → List (List ℕ)
 fields_in [] = []
 fields_in (piece ∷ []) = if is_starred piece then [] else piece ∷ []
@@ -42,7 +42,7 @@ fields_in (piece ∷ (next ∷ pieces)) = piece ∷ fields_in (next ∷ pieces)
 abbrev pub fields_of : List ℕ → List (List ℕ)
 fields_of text = fields_in (pieces_of text)
 
--- the piece that is the count: a last one that begins with `*`
+-- The piece that is the count: a last one that begins with `*`.
 abbrev pub count_in : List (List ℕ) → Option (List ℕ)
 count_in [] = None
 count_in (piece ∷ []) = if is_starred piece then Some piece else None
@@ -53,38 +53,40 @@ abbrev pub and_then : {A B : Type 0} → Result A StimCode → (A → Result B S
 and_then (Ok x) f = f x
 and_then (Err code) f = Err code
 
--- 1 to 20 decimal digits
+-- The text is 1 to 20 decimal digits.
 abbrev pub is_value : List ℕ → Bool
 is_value text = list_all is_ascii_digit text && nat_le 1 (length text) && nat_le (length text) 20
 
--- S1 where the text is no value, S2 where the value isn't below 2 to the width
+-- S1 where the text is no value, S2 where the value isn't below 2 to the width.
 abbrev pub value_of : (width : ℕ) → List ℕ → Result ℕ StimCode
 value_of width text =
     if not (is_value text) then Err S1
     else (if nat_lt (digits_value 10 text) (2 ^ width) then Ok (digits_value 10 text) else Err S2)
 
--- S3 where the level is none
+-- S3 where the level is none.
 abbrev pub with_level : (value : ℕ) → Option ℕ → Result Given StimCode
 with_level value None = Err S3
 with_level value (Some level) = Ok (record { number = value; level = level })
 
--- the value stands before the first `@` and the level's name behind it; S1 where there is no `@`, or nothing behind it
+-- The value stands before the first `@` and the level's name behind it; S1 where there is no `@`, or nothing behind it.
 abbrev pub tagged_of : Levels → (width : ℕ) → List ℕ → Result Given StimCode
 tagged_of ls width text =
     let name = after_first (λ b. b == byte "@") text in
     if length name == 0 then Err S1
-    else and_then (value_of width (before_first (λ b. b == byte "@") text)) (λ value. with_level value (level_named ls.names name))
+    else and_then (value_of width (before_first (λ b. b == byte "@") text))
+    (λ value. with_level value (level_named ls.names name))
 
--- the level of a plain field is bottom
+-- The level of a plain field is bottom.
 abbrev pub plain_of : Levels → (width : ℕ) → List ℕ → Result Given StimCode
-plain_of ls width text = and_then (value_of width text) (λ value. Ok (record { number = value; level = (order_of ls).bottom }))
+plain_of ls width text = and_then (value_of width text)
+    (λ value. Ok (record { number = value; level = (order_of ls).bottom }))
 
 -- What a field is read as.
 abbrev pub field_of : Levels → Field → List ℕ → Result Given StimCode
 field_of ls (Tagged width) text = tagged_of ls width text
 field_of ls (Plain width) text = plain_of ls width text
 
--- the fields from the left; S4 where their number is another
+-- The fields from the left; S4 where their number is another.
 abbrev pub inputs_of : Levels → List Field → List (List ℕ) → Result (List Given) StimCode
 inputs_of ls [] [] = Ok []
 inputs_of ls [] (text ∷ texts) = Err S4
@@ -92,28 +94,31 @@ inputs_of ls (f ∷ fs) [] = Err S4
 inputs_of ls (f ∷ fs) (text ∷ texts) =
     and_then (field_of ls f text) (λ input. and_then (inputs_of ls fs texts) (λ inputs. Ok (input ∷ inputs)))
 
--- 1 to 5 decimal digits, whose number is 1 to 65,535
+-- The text is 1 to 5 decimal digits, whose number is 1 to 65,535.
 abbrev pub is_count : List ℕ → Bool
 is_count digits =
     list_all is_ascii_digit digits && nat_le 1 (length digits) && nat_le (length digits) 5
     && nat_le 1 (digits_value 10 digits) && nat_le (digits_value 10 digits) 65535
 
--- for how many cycles a line stands: without a count for one; with a count for its number, which is behind the `*`; else S6
+-- For how many cycles a line stands: without a count for one; with a count for its number, which is behind the `*`;
+-- else S6.
 abbrev pub count_of : Option (List ℕ) → Result ℕ StimCode
 count_of None = Ok 1
 count_of (Some piece) =
     if is_count (drop 1 piece) then Ok (digits_value 10 (drop 1 piece)) else Err S6
 
--- a line without its LF: first its length, which is at most 65,536 bytes, then S5 where it has no LF, then S4, then its fields, then its count
+-- A line without its LF: first its length, which is at most 65,536 bytes, then S5 where it has no LF, then S4, then its
+-- fields, then its count.
 abbrev pub line_of : Levels → List Field → (ended : Bool) → List ℕ → Result Span StimCode
 line_of ls fs ended text =
     if nat_lt 65536 (length text) then Err S1
     else (if not ended then Err S5
     else (if not (length (fields_of text) == length fs) then Err S4
     else and_then (inputs_of ls fs (fields_of text))
-    (λ inputs. and_then (count_of (count_in (pieces_of text))) (λ count. Ok (record { inputs = inputs; count = count })))))
+    (λ inputs. and_then (count_of (count_in (pieces_of text)))
+    (λ count. Ok (record { inputs = inputs; count = count })))))
 
--- what a call tells that reads a line, its inputs in place of others
+-- What a call tells that reads a line, its inputs in place of others.
 abbrev pub with_inputs : Result ℕ StimCode → (inputs : List Given) → Result Span StimCode
 with_inputs (Ok count) inputs = Ok (record { inputs = inputs; count = count })
 with_inputs (Err code) inputs = Err code

@@ -6,42 +6,47 @@ use Rattle.sap_lattice.specs.Closure.{name_at}
 use Rattle.sap_lattice.specs.Codes.{code_of}
 use Rattle.sap_lattice.specs.Levels.{Levels, order_of, numbers}
 
--- a register with its value and its tag; the level is the name of that whose code is the tag
+-- A register with its value and its tag; the level is the name of that whose code is the tag.
 pub record Shown : Type 0 where
   pub name : List ℕ
   pub value : ℕ
   pub level : Option (List ℕ)
   pub tag : ℕ
 
--- the level whose code is this number
+-- The level whose code is this number.
 abbrev pub level_coded : Levels → ℕ → Option ℕ
 level_coded ls code = find (λ level. code_of (order_of ls) level == code) (numbers (length ls.names))
 
 -- What a row shows of a register: its name, its number, its level and its code.
 abbrev pub shown : Levels → (name : List ℕ) → (value tag : ℕ) → Shown
-shown ls name value tag = record { name = name; value = value; level = option_map (name_at ls.names) (level_coded ls tag); tag = tag }
+shown ls name value tag = record {
+  name = name;
+  value = value;
+  level = option_map (name_at ls.names) (level_coded ls tag);
+  tag = tag;
+}
 
--- registers by their names, values and tags
+-- Registers by their names, values and tags.
 abbrev pub shown_of : Levels → (names : List (List ℕ)) → (values tags : List ℕ) → List Shown
 shown_of ls [] values tags = []
 shown_of ls (name ∷ names) [] tags = []
 shown_of ls (name ∷ names) (value ∷ values) [] = []
 shown_of ls (name ∷ names) (value ∷ values) (tag ∷ tags) = shown ls name value tag ∷ shown_of ls names values tags
 
--- a level by its name; a tag that is no code as `#` and its number
+-- A level by its name; a tag that is no code as `#` and its number.
 abbrev pub level_text : Option (List ℕ) → (tag : ℕ) → List ℕ
 level_text (Some name) tag = name
 level_text None tag = codes "#" ++ decimal tag
 
--- what stands before the number of the register of a name
+-- What stands before the number of the register of a name.
 abbrev pub label_text : (name : List ℕ) → List ℕ
 label_text name = codes " " ++ name ++ codes "="
 
--- what stands behind the number of a register with a tag
+-- What stands behind the number of a register with a tag.
 abbrev pub at_level : Levels → (tag : ℕ) → List ℕ
 at_level ls tag = codes "@" ++ level_text (option_map (name_at ls.names) (level_coded ls tag)) tag
 
--- what stands behind numbers, for each tag below so many
+-- What stands behind numbers, for each tag below so many.
 abbrev pub AreLevelTexts : Levels → (texts : List (List ℕ)) → Type 0
 AreLevelTexts ls texts = (tag : ℕ) (other : List ℕ) → tag < length texts → get_or texts tag other ≡ at_level ls tag
 
@@ -58,10 +63,11 @@ all_shown (s ∷ ss) = shown_text s ++ all_shown ss
 abbrev pub row_text : (cycle : ℕ) → List Shown → List ℕ
 row_text cycle ss = codes "cycle " ++ decimal cycle ++ codes ":" ++ all_shown ss
 
--- how many bytes a row takes at most, whatever its cycle: the number of a cycle is counted as 20 digits
+-- How many bytes a row takes at most, whatever its cycle: the number of a cycle is counted as 20 digits.
 abbrev pub row_room : List Shown → ℕ
 row_room ss = length (codes "cycle ") + 20 + length (codes ":") + length (all_shown ss)
 
--- so many bytes are enough for any row of the registers of these names
+-- So many bytes are enough for any row of the registers of these names.
 abbrev pub HoldsRows : Levels → (names : List (List ℕ)) → (room : ℕ) → Type 0
-HoldsRows ls names room = (values tags : List ℕ) → All (λ n. n < 2 ^ 64) values → All (λ n. n < 2 ^ 64) tags → row_room (shown_of ls names values tags) ≤ room
+HoldsRows ls names room = (values tags : List ℕ) → All (λ n. n < 2 ^ 64) values
+    → All (λ n. n < 2 ^ 64) tags → row_room (shown_of ls names values tags) ≤ room

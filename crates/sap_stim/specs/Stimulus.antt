@@ -14,7 +14,7 @@ abbrev pub is_empty : List ℕ → Bool
 is_empty [] = true
 is_empty (b ∷ bs) = false
 
--- a file gives the cycles of the lines before the first refused one, and that one's number, from 1, with its code
+-- A file gives the cycles of the lines before the first refused one, and that one's number, from 1, with its code.
 abbrev pub ahead : Span → Parsed → Parsed
 ahead line p = record { stream = cycles_in line ++ p.stream; fault = p.fault }
 
@@ -31,7 +31,8 @@ abbrev pub going_on : (line : ℕ) → Result Span StimCode → Parsed → Parse
 going_on line (Ok span) rest = ahead span rest
 going_on line (Err code) rest = stopped line code
 
--- the pieces between the LFs, the first of them being this line; what is behind the last LF is a line without one, unless it is empty
+-- The pieces between the LFs, the first of them being this line; what is behind the last LF is a line without one,
+-- unless it is empty.
 abbrev pub read_pieces : Levels → List Field → (line : ℕ) → List (List ℕ) → Parsed
 read_pieces ls fs line [] = finished
 read_pieces ls fs line (text ∷ []) =
@@ -43,10 +44,10 @@ read_pieces ls fs line (text ∷ (next ∷ rest)) =
 abbrev pub stimulus_of : Levels → List Field → List ℕ → Parsed
 stimulus_of ls fs bytes = read_pieces ls fs 1 (split_at 10 bytes)
 
--- what the rest of a file gives, its first line being of this number
+-- What the rest of a file gives, its first line being of this number.
 abbrev pub read_from : Levels → List Field → (line : ℕ) → List ℕ → Parsed
 read_from ls fs line rest = read_pieces ls fs line (split_at 10 rest)
 
--- cycles that were read, and then what comes behind them
+-- Cycles that were read, and then what comes behind them.
 abbrev pub behind : List (List Given) → Parsed → Parsed
 behind cycles p = record { stream = cycles ++ p.stream; fault = p.fault }

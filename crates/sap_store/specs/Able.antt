@@ -7,7 +7,7 @@ use Rattle.sap_meaning.specs.Expressions.{width_of}
 use Rattle.sap_meaning.specs.Sized.{SizedTerm, Indexes}
 use Rattle.sap_resolved.specs.Sized.Ranges.{RangedTerm}
 
--- the widths fit one another, and are from 1 to 64
+-- The widths fit one another, and are from 1 to 64.
 pub record AbleTerm (w : World) (e : Term ℕ) : Type 0 where
   pub sized : SizedTerm w e
   pub ranged : RangedTerm w e
@@ -16,19 +16,19 @@ pub record AbleTerm (w : World) (e : Term ℕ) : Type 0 where
 abbrev pub AbleLevel : World → LevelTerm → Type 0
 AbleLevel w n = EveryLevel (λ level. Unit {0}) (AbleTerm w) n
 
--- an index of a memory
+-- An index of a memory.
 pub record AbleIndex (w : World) (m : ℕ) (i : Term ℕ) : Type 0 where
   pub memory : m < root w
   pub index : AbleTerm w i
   pub within : Indexes w m i
 
--- the number x of an entity and an expression of its width
+-- The number x of an entity and an expression of its width.
 pub record AbleValue (w : World) (x : ℕ) (e : Term ℕ) : Type 0 where
   pub entity : x < root w
   pub value : AbleTerm w e
   pub same : width_of w e ≡ width w x
 
--- a state, with the last one in it and its place
+-- A state, with the last one in it and its place.
 pub record AbleTarget (w : World) (x : ℕ) : Type 0 where
   pub itself : x ≤ last w x
   pub within : last w x < root w

@@ -19,7 +19,7 @@ program_of d = program_in (order_of d.lattice.now) d.program.now
 abbrev pub world_in : Environment → World
 world_in d = (program_of d).world
 
--- how many entities there are
+-- How many entities there are.
 abbrev pub entities_in : Environment → ℕ
 entities_in d = count d.program.now
 

@@ -12,8 +12,15 @@ start_level b e = if e.dynamic then b else e.declared
 
 -- The cells that a memory starts with: 0, at the memory's level.
 abbrev pub start_cells : (bottom : ℕ) → Entity → Cells
-start_cells b e = record { cells = replicate (depth_of (kind_of_sort e.sort)) (no_cell (start_level b e)); whole = start_level b e }
+start_cells b e = record {
+  cells = replicate (depth_of (kind_of_sort e.sort)) (no_cell (start_level b e));
+  whole = start_level b e;
+}
 
 -- All that is kept of an entity at the start.
 abbrev pub started : (bottom : ℕ) → Entity → kept.Entry
-started b e = record { own = record { number = e.initial; level = start_level b e }; start = start_cells b e; next = start_cells b e }
+started b e = record {
+  own = record { number = e.initial; level = start_level b e };
+  start = start_cells b e;
+  next = start_cells b e;
+}

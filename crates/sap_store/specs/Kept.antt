@@ -14,7 +14,7 @@ use Rattle.sap_store.specs.Half.{Cells, no_cell, cell_at}
 abbrev pub no_half : (level : ℕ) → Cells
 no_half t = record { cells = []; whole = t }
 
--- a number that is no entity has the number 0 and the bottom everywhere
+-- A number that is no entity has the number 0 and the bottom everywhere.
 abbrev pub no_entry : (level : ℕ) → Entry
 no_entry t = record { own = no_cell t; start = no_half t; next = no_half t }
 
@@ -26,7 +26,7 @@ no_input t = record { number = 0; level = t }
 abbrev pub entry_at : World → List Entry → ℕ → Entry
 entry_at w es x = get_or es x (no_entry w.order.bottom)
 
--- the level of a memory's cells past the last one
+-- The level of a memory's cells past the last one.
 abbrev pub past : World → ℕ → ℕ
 past w m = first_level w (own m)
 
@@ -54,18 +54,19 @@ store_of w s = record {
   child = λ p. get_or s.current.items p 0;
 }
 
--- an entry for each entity, as many cells in both parts of a memory as it is deep, and a place for each entity and the root
+-- An entry for each entity, as many cells in both parts of a memory as it is deep, and a place for each entity and the
+-- root.
 pub record Shaped (w : World) (s : Store) : Type 0 where
   pub entries : length s.entries.items ≡ root w
   pub starts : (m : ℕ) → length (entry_at w s.entries.items m).start.cells ≡ depth w m
   pub nexts : (m : ℕ) → length (entry_at w s.entries.items m).next.cells ≡ depth w m
   pub seats : length s.current.items ≡ suc (root w)
 
--- and each number fits its width
+-- And each number fits its width.
 pub record Ready (w : World) (s : Store) : Type 0 where
   pub shaped : Shaped w s
   pub numbers : (z : Slot) → number z (store_of w s) < 2 ^ width w (owner z)
 
--- what the k-th input gets
+-- What the k-th input gets.
 abbrev pub input_in : World → List Tagged → ℕ → Tagged
 input_in w inputs k = get_or inputs k (no_input w.order.bottom)

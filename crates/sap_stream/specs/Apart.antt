@@ -10,11 +10,11 @@ use Rattle.sap_stream.specs.declared.apart.Apart.TheVariants.{Lengths, At}
 abbrev pub AreAlike : Order → ℕ → Tagged → Tagged → Type 0
 AreAlike o l a b = Alike o l (a.number ≡ b.number) a.level b.level
 
--- what the input at a place gets, the places being counted from 0
+-- What the input at a place gets, the places being counted from 0.
 abbrev pub input_at : List Tagged → ℕ → Tagged
 input_at inputs place = get_or inputs place (record { number = 0; level = 0 })
 
--- the inputs of a cycle, the cycles being counted from 1
+-- The inputs of a cycle, the cycles being counted from 1.
 abbrev pub cycle_at : List (List Tagged) → ℕ → List Tagged
 cycle_at stream cycle = get_or stream (cycle - 1) []
 
@@ -33,12 +33,13 @@ pub record IsApartAt (o : Order) (l : ℕ) (first second : List (List Tagged)) (
   pub before : StreamsAgree o l (take (cycle - 1) first) (take (cycle - 1) second)
   pub here : IsFirst o l (cycle_at first cycle) (cycle_at second cycle) input
 
--- how many cycles each has, where that differs; else the first cycle that doesn't agree, and its first input that isn't alike
+-- How many cycles each has, where that differs; else the first cycle that doesn't agree, and its first input that isn't
+-- alike.
 abbrev pub IsApart : Order → ℕ → List (List Tagged) → List (List Tagged) → Apart → Type 0
 IsApart o l first second (Lengths a b) = (a ≡ length first) × (b ≡ length second) × (a ≢ b)
 IsApart o l first second (At cycle input) = IsApartAt o l first second cycle input
 
--- every cycle of both streams has as many inputs
+-- Every cycle of both streams has as many inputs.
 abbrev pub AreOfOneLength : List (List Tagged) → List (List Tagged) → Type 0
 AreOfOneLength first second =
     (count : ℕ) × All (λ inputs. length inputs ≡ count) first × All (λ inputs. length inputs ≡ count) second

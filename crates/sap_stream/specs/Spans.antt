@@ -2,19 +2,19 @@
 use Rattle.std.specs.Prelude.{ℕ, ◌≤◌, List, replicate, flat_map}
 use Rattle.sap_meaning.specs.Cycle.{Tagged}
 
--- what each input gets, for so many cycles
+-- What each input gets, for so many cycles.
 pub record Span : Type 0 where
   pub inputs : List Tagged
   pub count : ℕ
 
--- for how many cycles a span can stand
+-- For how many cycles a span can stand.
 abbrev pub IsCount : ℕ → Type 0
 IsCount count = (1 ≤ count) × (count ≤ 65535)
 
--- the inputs of each of its cycles
+-- The inputs of each of its cycles.
 abbrev pub cycles_in : Span → List (List Tagged)
 cycles_in s = replicate s.count s.inputs
 
--- the inputs of each cycle of some spans, one behind another
+-- The inputs of each cycle of some spans, one behind another.
 abbrev pub cycles_of : List Span → List (List Tagged)
 cycles_of spans = flat_map cycles_in spans

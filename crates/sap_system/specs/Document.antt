@@ -6,18 +6,18 @@ use Rattle.sap_system.specs.Listing.{Listing}
 use Rattle.sap_system.specs.declared.file.Part.{Part}
 use Rattle.sap_system.specs.declared.file.WireText.{WireText}
 
--- two texts: a part's name, and its file's
+-- Two texts: a part's name, and its file's.
 abbrev pub part_in : List (List ℕ) → Option Part
 part_in (name ∷ file ∷ []) = Some (record { name = name; file = file })
 part_in _ = None
 
--- two texts, or three: what a wire leads from, what it leads to, and its level
+-- Two texts, or three: what a wire leads from, what it leads to, and its level.
 abbrev pub wire_in : List (List ℕ) → Option WireText
 wire_in (from ∷ to ∷ []) = Some (record { from = from; to = to; level = None })
 wire_in (from ∷ to ∷ level ∷ []) = Some (record { from = from; to = to; level = Some level })
 wire_in _ = None
 
--- the strings of an array that has nothing else
+-- The strings of an array that has nothing else.
 abbrev pub texts_in : Data → Option (List (List ℕ))
 texts_in value = option_and_then texts_of (as_array value)
 
@@ -29,7 +29,7 @@ part_of value = option_and_then part_in (texts_in value)
 abbrev pub wire_of : Data → Option WireText
 wire_of value = option_and_then wire_in (texts_in value)
 
--- the parts, and the wires, of an array that has nothing else
+-- The parts, and the wires, of an array that has nothing else.
 abbrev pub parts_of : Items → Option (List Part)
 parts_of = each_of part_of
 
@@ -37,8 +37,8 @@ parts_of = each_of part_of
 abbrev pub wires_of : Items → Option (List WireText)
 wires_of = each_of wire_of
 
--- the document has exactly two keys: `parts`, an array of arrays of two strings, and `wires`, an array of arrays of two
--- or three strings
+-- The document has exactly two keys: `parts`, an array of arrays of two strings, and `wires`, an array of arrays of two
+-- or three strings.
 pub record Lists (document : Members) (s : Listing) : Type 0 where
   pub two_keys : key_count document ≡ 2
   pub parts : option_and_then parts_of (array_at (codes "parts") document) ≡ Some s.parts

@@ -19,17 +19,18 @@ wire from to = record { from = from; to = to; level = None }
 abbrev pub wire_through : (from to level : List ℕ) → WireText
 wire_through from to level = record { from = from; to = to; level = Some level }
 
--- two parts and two wires, the second through a level
+-- Two parts and two wires, the second through a level.
 abbrev pub TwoParts : Type 0
-TwoParts = IsSystemOfFile (codes "parts = [['p', 'a.sap'], ['q', 'b.sap']]\nwires = [['p.x', 'q.b'], ['q.y', 'p.a', 'low']]")
+TwoParts = IsSystemOfFile (codes "parts = [['p', 'a.sap'], ['q', 'b.sap']]\nwires = [['p.x', 'q.b'],
+    ['q.y', 'p.a', 'low']]")
     (listing (part (codes "p") (codes "a.sap") ∷ part (codes "q") (codes "b.sap") ∷ [])
     (wire (codes "p.x") (codes "q.b") ∷ wire_through (codes "q.y") (codes "p.a") (codes "low") ∷ []))
 
--- K1: the bytes are no document
+-- K1: the bytes are no document.
 abbrev pub NoDocument : Type 0
 NoDocument = FirstFault (codes "parts") (Rule K1 0)
 
--- K2: there are no wires, not even none; there is a third key; a wire has one text
+-- K2: there are no wires, not even none; there is a third key; a wire has one text.
 abbrev pub NoWires : Type 0
 NoWires = FirstFault (codes "parts = []") (Rule K2 0)
 
@@ -41,7 +42,7 @@ ThirdKey = FirstFault (codes "parts = []\nwires = []\nlevels = []") (Rule K2 0)
 abbrev pub OneText : Type 0
 OneText = FirstFault (codes "parts = []\nwires = [['p.x']]") (Rule K2 0)
 
--- K3: there are no parts; there are nine
+-- K3: there are no parts; there are nine.
 abbrev pub NoParts : Type 0
 NoParts = FirstFault (codes "parts = []\nwires = []") (Rule K3 0)
 
@@ -49,7 +50,7 @@ NoParts = FirstFault (codes "parts = []\nwires = []") (Rule K3 0)
 abbrev pub NineParts : Type 0
 NineParts = FirstFault (codes "parts = [['p',''],['p',''],['p',''],['p',''],['p',''],['p',''],['p',''],['p',''],['p','']]\nwires = []") (Rule K3 9)
 
--- K4: a name is a keyword; has `_`; stands earlier
+-- K4: a name is a keyword; has `_`; stands earlier.
 abbrev pub KeywordName : Type 0
 KeywordName = FirstFault (codes "parts = [['input', 'a']]\nwires = []") (Rule K4 1)
 

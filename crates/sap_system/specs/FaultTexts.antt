@@ -8,7 +8,7 @@ use Rattle.sap_system.specs.declared.link_fault.LinkCode.TheVariants.{K5, K6, K7
 use Rattle.sap_system.specs.declared.link_fault.LinkFault.{LinkFault}
 use Rattle.sap_system.specs.declared.link_fault.LinkFault.TheVariants as link
 
--- the code, and of K3 and K4 its number
+-- The code, and of K3 and K4 its number.
 abbrev pub system_text : SysFault → List ℕ
 system_text (file.Rule K1 n) = codes "K1"
 system_text (file.Rule K2 n) = codes "K2"
@@ -16,7 +16,7 @@ system_text (file.Rule K3 n) = codes "K3 " ++ decimal n
 system_text (file.Rule K4 n) = codes "K4 " ++ decimal n
 system_text file.Memory = codes "memory"
 
--- the code, and the wire
+-- The code, and the wire.
 abbrev pub wire_text : LinkFault → List ℕ
 wire_text (link.Rule K5 n) = codes "K5 " ++ decimal n
 wire_text (link.Rule K6 n) = codes "K6 " ++ decimal n

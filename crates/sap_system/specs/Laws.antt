@@ -4,14 +4,14 @@ use Rattle.sap_system.specs.Listing.{Listing}
 use Rattle.sap_system.specs.SystemFile.{FirstFault, IsSystemOfFile}
 use Rattle.sap_system.specs.declared.fault.SysFault.{SysFault}
 
--- a file is at most one system
+-- A file is at most one system.
 abbrev pub OneSystem : Type 0
 OneSystem = (bytes : List ℕ) (s t : Listing) → IsSystemOfFile bytes s → IsSystemOfFile bytes t → s ≡ t
 
--- a file has at most one first fault
+-- A file has at most one first fault.
 abbrev pub OneFault : Type 0
 OneFault = (bytes : List ℕ) (one other : SysFault) → FirstFault bytes one → FirstFault bytes other → one ≡ other
 
--- and none where it is a system
+-- And none where it is a system.
 abbrev pub NotBoth : Type 0
 NotBoth = (bytes : List ℕ) (s : Listing) (fault : SysFault) → IsSystemOfFile bytes s → FirstFault bytes fault → ⊥

@@ -3,7 +3,7 @@ use Rattle.std.specs.Prelude.{List}
 use Rattle.sap_system.specs.declared.file.Part.{Part}
 use Rattle.sap_system.specs.declared.file.WireText.{WireText}
 
--- parts with their files, and the texts of wires
+-- Parts with their files, and the texts of wires.
 pub record Listing : Type 0 where
   pub parts : List Part
   pub wires : List WireText

@@ -9,7 +9,7 @@ use Rattle.sap_system.specs.declared.fault.SysFault.{SysFault}
 use Rattle.sap_system.specs.declared.fault.SysFault.TheVariants.{Rule}
 use Rattle.sap_system.specs.declared.file.Part.{Part}
 
--- K3: there are too few or too many parts
+-- K3: there are too few or too many parts.
 abbrev pub BadCount : List Part → Type 0
 BadCount parts = (length parts < 1) ⊎ (8 < length parts)
 
@@ -21,12 +21,12 @@ part_names parts = map (λ p. p.name) parts
 abbrev pub has_underscore : List ℕ → Bool
 has_underscore name = list_any (λ c. c == byte "_") name
 
--- what is no name for the part at place k: what is none for a level there, and what has `_`
+-- What is no name for the part at place k: what is none for a level there, and what has `_`.
 pub data BadPartName (names : List (List ℕ)) (k : ℕ) : Type 0 where
   bad : BadName names k → BadPartName names k
   underscore : has_underscore (name_at names k) ≡ true → BadPartName names k
 
--- K4: part k has no name of the design language, or one that is too long, a keyword or an earlier part's, or has `_`
+-- K4: part k has no name of the design language, or one that is too long, a keyword or an earlier part's, or has `_`.
 abbrev pub BadPart : List Part → ℕ → Type 0
 BadPart parts k = (k < length parts) × BadPartName (part_names parts) k
 
@@ -35,12 +35,13 @@ pub record KeepsCount (parts : List Part) : Type 0 where
   pub some : 1 ≤ length parts
   pub few : length parts ≤ 8
 
--- none of the two is broken
+-- None of the two is broken.
 pub record KeepsParts (parts : List Part) : Type 0 where
   pub count : KeepsCount parts
   pub named : (k : ℕ) → ¬ BadPart parts k
 
--- what an answer of K3 and K4 says: the rule that is broken first, and how many parts there are, or which one it is, from 1
+-- What an answer of K3 and K4 says: the rule that is broken first, and how many parts there are, or which one it is,
+-- from 1.
 abbrev pub FirstBroken : List Part → SysFault → Type 0
 FirstBroken parts (Rule K3 n) = BadCount parts × (n ≡ length parts)
 FirstBroken parts (Rule K4 n) = KeepsCount parts × ((k : ℕ) × IsFirst (BadPart parts) k × (n ≡ k + 1))

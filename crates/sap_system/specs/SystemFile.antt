@@ -9,24 +9,24 @@ use Rattle.sap_system.specs.declared.fault.SysFault.{SysFault}
 use Rattle.sap_system.specs.declared.fault.SysFault.TheVariants.{Rule}
 use Rattle.sap_system.specs.declared.fault.SysCode.TheVariants.{K1, K2}
 
--- the bytes are a document that lists these parts and wires
+-- The bytes are a document that lists these parts and wires.
 pub record IsFileOf (bytes : List ℕ) (s : Listing) : Type 0 where
   pub document : Members
   pub is_document : IsDocument bytes document
   pub lists : Lists document s
 
--- K2: the bytes are a document that lists no parts and wires
+-- K2: the bytes are a document that lists no parts and wires.
 pub record HasOtherShape (bytes : List ℕ) : Type 0 where
   pub document : Members
   pub is_document : IsDocument bytes document
   pub other : (s : Listing) → ¬ Lists document s
 
--- what each answer says: the rule that is broken first, K1 and K2 before those on parts; the number of K1 and K2 is 0
+-- What each answer says: the rule that is broken first, K1 and K2 before those on parts; the number of K1 and K2 is 0.
 abbrev pub FirstFault : List ℕ → SysFault → Type 0
 FirstFault bytes (Rule K1 n) = IsNoDocument bytes × (n ≡ 0)
 FirstFault bytes (Rule K2 n) = HasOtherShape bytes × (n ≡ 0)
 FirstFault bytes fault = (s : Listing) × IsFileOf bytes s × FirstBroken s.parts fault
 
--- s is the system of the file: the file lists it, and its parts keep the rules
+-- `s` is the system of the file: the file lists it, and its parts keep the rules.
 abbrev pub IsSystemOfFile : List ℕ → Listing → Type 0
 IsSystemOfFile bytes s = IsFileOf bytes s × KeepsParts s.parts

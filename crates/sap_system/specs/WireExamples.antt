@@ -20,7 +20,8 @@ entities_of_p = entity (codes "a") (what.Input 8) ∷ entity (codes "x") (what.R
 
 -- The second part's input and registers.
 abbrev pub entities_of_q : List Entity
-entities_of_q = entity (codes "b") (what.Input 8) ∷ entity (codes "y") (what.Register 8) ∷ entity (codes "z") (what.Register 4) ∷ []
+entities_of_q = entity (codes "b") (what.Input 8) ∷ entity (codes "y") (what.Register 8)
+    ∷ entity (codes "z") (what.Register 4) ∷ []
 
 -- The first part.
 abbrev pub part_p : NamedPart
@@ -34,11 +35,12 @@ part_q = record { name = codes "q"; entities = entities_of_q }
 abbrev pub p_and_q : Surroundings
 p_and_q = record { parts = part_p ∷ part_q ∷ []; levels = codes "low" ∷ codes "high" ∷ [] }
 
--- each feeds the other, one through a level
+-- Each feeds the other, one through a level.
 abbrev pub FeedEachOther : Type 0
-FeedEachOther = KeepsWires p_and_q (wire (codes "p.x") (codes "q.b") ∷ wire_through (codes "q.y") (codes "p.a") (codes "low") ∷ [])
+FeedEachOther = KeepsWires p_and_q (wire (codes "p.x") (codes "q.b")
+    ∷ wire_through (codes "q.y") (codes "p.a") (codes "low") ∷ [])
 
--- K5: an input isn't fed from an input; it comes before the other rules on that wire
+-- K5: an input isn't fed from an input; it comes before the other rules on that wire.
 abbrev pub FromInput : Type 0
 FromInput = FirstLinkFault p_and_q (wire (codes "p.a") (codes "q.b") ∷ []) (Rule K5 1)
 
@@ -46,18 +48,18 @@ FromInput = FirstLinkFault p_and_q (wire (codes "p.a") (codes "q.b") ∷ []) (Ru
 abbrev pub AllWrong : Type 0
 AllWrong = FirstLinkFault p_and_q (wire_through (codes "p.a") (codes "q.y") (codes "mid") ∷ []) (Rule K5 1)
 
--- K6: no register is fed
+-- K6: no register is fed.
 abbrev pub ToRegister : Type 0
 ToRegister = FirstLinkFault p_and_q (wire (codes "p.x") (codes "q.y") ∷ []) (Rule K6 1)
 
--- K7: an input is fed twice
+-- K7: an input is fed twice.
 abbrev pub FedTwice : Type 0
 FedTwice = FirstLinkFault p_and_q (wire (codes "p.x") (codes "q.b") ∷ wire (codes "q.z") (codes "q.b") ∷ []) (Rule K7 2)
 
--- K8: a register is narrower than the input; it comes before the rule on the level
+-- K8: a register is narrower than the input; it comes before the rule on the level.
 abbrev pub Narrower : Type 0
 Narrower = FirstLinkFault p_and_q (wire_through (codes "q.z") (codes "p.a") (codes "mid") ∷ []) (Rule K8 1)
 
--- K9: no level is called so
+-- K9: no level is called so.
 abbrev pub UnknownLevel : Type 0
 UnknownLevel = FirstLinkFault p_and_q (wire_through (codes "p.x") (codes "q.b") (codes "mid") ∷ []) (Rule K9 1)

@@ -10,12 +10,12 @@ use Rattle.sap_system.specs.declared.link_fault.LinkCode.TheVariants.{K5, K6, K7
 use Rattle.sap_system.specs.declared.link_fault.LinkFault.{LinkFault}
 use Rattle.sap_system.specs.declared.link_fault.LinkFault.TheVariants.{Rule, Memory}
 
--- a part's name, and what its design declares
+-- A part's name, and what its design declares.
 pub record NamedPart : Type 0 where
   pub name : List ℕ
   pub entities : List Entity
 
--- what wires are held against: the parts in order, and the names of the levels
+-- What wires are held against: the parts in order, and the names of the levels.
 pub record Surroundings : Type 0 where
   pub parts : List NamedPart
   pub levels : List (List ℕ)
@@ -27,7 +27,7 @@ pub record Names (u : Surroundings) (text : List ℕ) (i : ℕ) (entity : List �
   pub spelled : text ≡ part.name ++ codes "." ++ entity
   pub stands_for : what_is part.entities entity ≡ Some declared
 
--- it names a register, or an input, of this width
+-- It names a register, or an input, of this width.
 abbrev pub NamesRegister : Surroundings → (text : List ℕ) (i : ℕ) (entity : List ℕ) (width : ℕ) → Type 0
 NamesRegister u text i entity width = Names u text i entity (what.Register width)
 
@@ -35,15 +35,15 @@ NamesRegister u text i entity width = Names u text i entity (what.Register width
 abbrev pub NamesInput : Surroundings → (text : List ℕ) (i : ℕ) (entity : List ℕ) (width : ℕ) → Type 0
 NamesInput u text i entity width = Names u text i entity (what.Input width)
 
--- K5: the first text names no register of a part
+-- K5: the first text names no register of a part.
 abbrev pub NoRegister : Surroundings → WireText → Type 0
 NoRegister u w = (i : ℕ) (entity : List ℕ) (width : ℕ) → ¬ NamesRegister u w.from i entity width
 
--- K6: the second names no input of a part
+-- K6: the second names no input of a part.
 abbrev pub NoInput : Surroundings → WireText → Type 0
 NoInput u w = (i : ℕ) (entity : List ℕ) (width : ℕ) → ¬ NamesInput u w.to i entity width
 
--- K7: an earlier wire than that at place k feeds the input
+-- K7: an earlier wire than that at place k feeds the input.
 pub record FedBefore (u : Surroundings) (wires : List WireText) (k : ℕ) (w : WireText) : Type 0 where
   pub earlier : ℕ
   pub before : earlier < k
@@ -55,7 +55,7 @@ pub record FedBefore (u : Surroundings) (wires : List WireText) (k : ℕ) (w : W
   pub there : NamesInput u other.to part entity width
   pub here : NamesInput u w.to part entity width
 
--- K8: the register and the input differ in width
+-- K8: the register and the input differ in width.
 pub record OtherWidth (u : Surroundings) (w : WireText) : Type 0 where
   pub from_part : ℕ
   pub register : List ℕ
@@ -67,13 +67,13 @@ pub record OtherWidth (u : Surroundings) (w : WireText) : Type 0 where
   pub to : NamesInput u w.to to_part input to_width
   pub differ : from_width ≢ to_width
 
--- K9: there is a third text, and it is no level's name
+-- K9: there is a third text, and it is no level's name.
 pub record NoLevel (u : Surroundings) (w : WireText) : Type 0 where
   pub level : List ℕ
   pub third : w.level ≡ Some level
   pub unknown : ¬ Contains u.levels level
 
--- the wire w at place k breaks a rule
+-- The wire w at place k breaks a rule.
 abbrev pub Breaks : Surroundings → List WireText → LinkCode → (k : ℕ) (w : WireText) → Type 0
 Breaks u wires K5 k w = NoRegister u w
 Breaks u wires K6 k w = NoInput u w
@@ -95,25 +95,27 @@ number_of_code K7 = 7
 number_of_code K8 = 8
 number_of_code K9 = 9
 
--- it is the first: no rule is broken by an earlier wire, and by this one none with a lower code
+-- It is the first: no rule is broken by an earlier wire, and by this one none with a lower code.
 pub record IsFirstBroken (u : Surroundings) (wires : List WireText) (code : LinkCode) (k : ℕ) : Type 0 where
   pub here : Stands u wires code k
   pub none_earlier : (other : LinkCode) (j : ℕ) → j < k → ¬ Stands u wires other j
   pub none_lower : (other : LinkCode) → number_of_code other < number_of_code code → ¬ Stands u wires other k
 
--- what each answer says: the first rule that is broken, and the wire, from 1
+-- What each answer says: the first rule that is broken, and the wire, from 1.
 abbrev pub FirstLinkFault : Surroundings → List WireText → LinkFault → Type 0
 FirstLinkFault u wires (Rule code n) = (k : ℕ) × IsFirstBroken u wires code k × (n ≡ k + 1)
 FirstLinkFault u wires Memory = ⊥
 
--- none is broken
+-- None is broken.
 abbrev pub KeepsWires : Surroundings → List WireText → Type 0
 KeepsWires u wires = (code : LinkCode) (k : ℕ) → ¬ Stands u wires code k
 
--- wires have at most one first fault
+-- Wires have at most one first fault.
 abbrev pub OneLinkFault : Type 0
-OneLinkFault = (u : Surroundings) (wires : List WireText) (one other : LinkFault) → FirstLinkFault u wires one → FirstLinkFault u wires other → one ≡ other
+OneLinkFault = (u : Surroundings) (wires : List WireText) (one other : LinkFault)
+    → FirstLinkFault u wires one → FirstLinkFault u wires other → one ≡ other
 
--- and none where they keep the rules
+-- And none where they keep the rules.
 abbrev pub NoneWhereKept : Type 0
-NoneWhereKept = (u : Surroundings) (wires : List WireText) (fault : LinkFault) → KeepsWires u wires → FirstLinkFault u wires fault → ⊥
+NoneWhereKept = (u : Surroundings) (wires : List WireText) (fault : LinkFault) → KeepsWires u wires
+    → FirstLinkFault u wires fault → ⊥

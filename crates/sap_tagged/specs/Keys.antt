@@ -36,7 +36,7 @@ same (first_key m) (first_key n) = nat_eq m n
 same (inner_key s) (inner_key t) = nat_eq s t
 same _ _ = false
 
--- a number in decimal, by its last k digits at most
+-- A number in decimal, by its last k digits at most.
 abbrev pub last_digits : (k n : ℕ) → Name
 last_digits zero n = []
 last_digits (suc k) n = if nat_lt n 10 then (48 + n) ∷ [] else last_digits k (n / 10) ++ (48 + n % 10) ∷ []
@@ -45,11 +45,11 @@ last_digits (suc k) n = if nat_lt n 10 then (48 + n) ∷ [] else last_digits k (
 unfoldable pub numeral : ℕ → Name
 numeral n = last_digits (suc n) n
 
--- the name of an entity, of a number past the last its digits
+-- The name of an entity, of a number past the last its digits.
 abbrev pub entity_word : Named → ℕ → Name
 entity_word d x = if nat_lt x (root (world d)) then name d x else numeral x
 
--- and of the root a 0
+-- And of the root a 0.
 abbrev pub seat_word : Named → ℕ → Name
 seat_word d p = if nat_eq p (root (world d)) then codes "0" else entity_word d p
 

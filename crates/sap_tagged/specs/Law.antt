@@ -25,7 +25,7 @@ use Rattle.sap_interface.specs.Compiled.{coded_stream, CyclesStand}
 use Rattle.sap_interface.specs.Designs.{named_of, site_count_of}
 use Rattle.sap_tagged.specs.Plain.{plain_of}
 
--- what an output port shows
+-- What an output port shows.
 abbrev pub shows : Nested → Name → PortKind
 shows p n = if is_among n (map (λ x. x.name) p.registers) then kind.Register else kind.Wire
 
@@ -33,7 +33,7 @@ shows p n = if is_among n (map (λ x. x.name) p.registers) then kind.Register el
 abbrev pub shown : Nested → List Shown
 shown p = map (λ x. (x.name, kind.Input)) p.inputs ++ map (λ n. (n, shows p n)) p.ports
 
--- what a program declares
+-- What a program declares.
 abbrev pub declared_in : Nested → Declared
 declared_in p =
     record {
@@ -44,13 +44,15 @@ declared_in p =
       memories = map (λ m. (m.name, (m.width, m.depth))) p.memories;
     }
 
--- each list has one number for each input, within its width
+-- Each list has one number for each input, within its width.
 abbrev pub AllNumbersFit : List Var → List (List ℕ) → Type 0
 AllNumbersFit xs lists = AllByRecursion (NumbersFit xs) lists
 
--- On every stream that fits the design, its levels given as codes, each cycle of the program stands for the same cycle of the labelled run.
+-- On every stream that fits the design, its levels given as codes, each cycle of the program stands for the same cycle
+-- of the labelled run.
 pub record RunStands (d : Named) (sites : ℕ) (p : Nested) : Type 0 where
-  pub takes : (stream : List (List Tagged)) → StreamFits (world d) stream → AllNumbersFit p.inputs (coded_stream d.code stream)
+  pub takes : (stream : List (List Tagged)) → StreamFits (world d) stream
+      → AllNumbersFit p.inputs (coded_stream d.code stream)
   pub stands : (stream : List (List Tagged)) → StreamFits (world d) stream
       → CyclesStand d sites (plain_run p (coded_stream d.code stream)) (labelled_run d.program stream)
 
@@ -59,17 +61,17 @@ pub record PlainStandsFor (d : Named) (tag sites : ℕ) (p : Nested) : Type 0 wh
   pub interface : DeclaresInterface d tag sites (declared_in p)
   pub run : RunStands d sites p
 
--- the plain program of a design
+-- The plain program of a design.
 abbrev pub plain_for : Levels → DesignTree → Nested
 plain_for ls d = plain_of (named_of ls d) (width_of (order_of ls)) (site_count_of d)
 
--- a whole and well-formed design, over a lattice
+-- A whole and well-formed design, over a lattice.
 pub record IsSound (ls : Levels) (d : DesignTree) : Type 0 where
   pub lattice : IsLattice ls
   pub whole : IsTrue (is_whole d)
   pub formed : WellFormed ls d
 
--- it stands for the design
+-- It stands for the design.
 abbrev pub PlainStandsForDesign : Levels → DesignTree → Nested → Type 0
 PlainStandsForDesign ls d p = PlainStandsFor (named_of ls d) (width_of (order_of ls)) (site_count_of d) p
 
@@ -77,10 +79,10 @@ PlainStandsForDesign ls d p = PlainStandsFor (named_of ls d) (width_of (order_of
 abbrev pub PlainStands : Type 0
 PlainStands = (ls : Levels) (d : DesignTree) → IsSound ls d → PlainStandsForDesign ls d (plain_for ls d)
 
--- and keeps the rules of its type
+-- And keeps the rules of its type.
 abbrev pub PlainsKeepRules : Type 0
 PlainsKeepRules = (ls : Levels) (d : DesignTree) → IsSound ls d → IsPlain (plain_for ls d)
 
--- and writes no memory twice in a cycle
+-- And writes no memory twice in a cycle.
 abbrev pub PlainsWriteOnce : Type 0
 PlainsWriteOnce = (ls : Levels) (d : DesignTree) → IsSound ls d → PlainWritesOnce (plain_for ls d)

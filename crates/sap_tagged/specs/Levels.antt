@@ -14,15 +14,15 @@ use Rattle.sap_tagged.specs.Setting.{Setting}
 abbrev pub var : Setting → Key → Term Name
 var d a = read (d.name a)
 
--- the code of a level
+-- The code of a level.
 abbrev pub bits : Setting → ℕ → Term Name
 bits d l = constant d.tag (d.code l)
 
--- the join of two levels
+-- The join of two levels.
 abbrev pub lub : Term Name → Term Name → Term Name
 lub a b = two Or a b
 
--- the first level is at or below the second
+-- The first level is at or below the second.
 abbrev pub below_or_at : Term Name → Term Name → Term Name
 below_or_at a b = two Eq (two Or a b) b
 
@@ -36,7 +36,7 @@ yes = constant 1 1
 abbrev pub expr : Setting → Term ℕ → Term Name
 expr d e = map_term (λ x. d.name (value_key x)) e
 
--- the tag of the cell that an index picks
+-- The tag of the cell that an index picks.
 abbrev pub cell_tag : Setting → (memory : ℕ) → Term ℕ → Term Name
 cell_tag d m i = if is_dynamic d.world m then var d (first_key m) else cell (d.name (tag_key m)) (expr d i)
 
@@ -59,35 +59,37 @@ place_width u = if nat_lt u 6 then 6 else u
 abbrev pub widened : (width : ℕ) → Term Name → Term Name
 widened u e = if nat_lt u 6 then join (constant (6 - u) 0) e else e
 
--- the level at the place e, which has u bits, of so many levels from the i-th on; else the top
+-- The level at the place e, which has u bits, of so many levels from the i-th on; else the top.
 abbrev pub placed : Setting → (u : ℕ) → (e : Term Name) → (i more : ℕ) → Term Name
 placed d u e i zero = bits d d.world.order.top
 placed d u e i (suc m) = choose (two Eq e (constant u i)) (bits d i) (placed d u e (i + 1) m)
 
--- the level that a tag expression gives
+-- The level that a tag expression gives.
 abbrev pub new_tag : Setting → LevelTerm → Term Name
 new_tag d (fixed n) = bits d n
 new_tag d (of e) = tag_of d e
-new_tag d (at_place e) = let u = width_of d.world e in placed d (place_width u) (widened u (expr d e)) 0 d.world.order.count
+new_tag d (at_place e) = let u = width_of d.world e in
+    placed d (place_width u) (widened u (expr d e)) 0 d.world.order.count
 new_tag d (both a b) = lub (new_tag d a) (new_tag d b)
 
--- the level of what a tag expression tells
+-- The level of what a tag expression tells.
 abbrev pub told_tag : Setting → LevelTerm → Term Name
 told_tag d (fixed n) = bits d d.world.order.bottom
 told_tag d (of e) = tag_of d e
 told_tag d (at_place e) = tag_of d e
 told_tag d (both a b) = lub (told_tag d a) (told_tag d b)
 
--- The current child, of the children from the i-th on; `seat` is its number, of u bits. It is one of them, so the last is
--- compared with nothing.
+-- The current child, of the children from the i-th on; `seat` is its number, of u bits. It is one of them, so the last
+-- is compared with nothing.
 
 -- The tag of the current child of a group.
 abbrev pub child_tag : Setting → (u : ℕ) → (seat : Term Name) → Group → (i : ℕ) → Term Name
 child_tag d u seat no_node i = bits d d.world.order.bottom
 child_tag d u seat (and_node (state_node c b k) no_node) i = var d (tag_key c)
-child_tag d u seat (and_node (state_node c b k) (and_node t g)) i = choose (two Eq seat (constant u i)) (var d (tag_key c)) (child_tag d u seat (and_node t g) (i + 1))
+child_tag d u seat (and_node (state_node c b k) (and_node t g)) i =
+    choose (two Eq seat (constant u i)) (var d (tag_key c)) (child_tag d u seat (and_node t g) (i + 1))
 
--- a state may be entered in the context pc
+-- A state may be entered in the context pc.
 abbrev pub enters : Setting → (pc : Term Name) → (state : ℕ) → Term Name
 enters d pc c = if is_dynamic d.world c then yes else below_or_at pc (var d (tag_key c))
 
@@ -98,7 +100,7 @@ child_enters d pc u seat (and_node (state_node c b k) no_node) i = enters d pc c
 child_enters d pc u seat (and_node (state_node c b k) (and_node t g)) i =
     choose (two Eq seat (constant u i)) (enters d pc c) (child_enters d pc u seat (and_node t g) (i + 1))
 
--- the width of the number of a state's current child, and that number
+-- The width of the number of a state's current child, and that number.
 abbrev pub seat_bits : Setting → ℕ → ℕ
 seat_bits d s = seat_width (children d.world s)
 
@@ -111,26 +113,32 @@ seat_of d s = var d (seat_key s)
 -- The tag at which a step's test is made, beside the context: that of what it would change, or its authority.
 abbrev pub guard_of : Setting → Home → Step → Term Name
 guard_of d at (assign site x e) = if is_dynamic d.world x then bits d d.world.order.bottom else var d (tag_key x)
-guard_of d at (write site m i e) = if is_dynamic d.world m then bits d d.world.order.bottom else lub (tag_of d i) (cell (d.name (tag_key m)) (expr d i))
+guard_of d at (write site m i e) = if is_dynamic d.world m then bits d d.world.order.bottom
+    else lub (tag_of d i) (cell (d.name (tag_key m)) (expr d i))
 guard_of d at (retag site x n) = bits d (authority d.world x)
 guard_of d at (retag_cell site m j n) = bits d (authority d.world m)
 guard_of d at (go_to site target) = bits d (entry d.world target)
 guard_of d at (fall_to_child site hang) = child_tag d (seat_bits d at.state) (seat_of d at.state) at.children 0
 
--- in the context pc
+-- In the context pc.
 abbrev pub test_of : Setting → Home → (pc : Term Name) → Step → Term Name
-test_of d at pc (assign site x e) = if is_dynamic d.world x then yes else below_or_at (lub pc (tag_of d e)) (var d (tag_key x))
+test_of d at pc (assign site x e) = if is_dynamic d.world x then yes
+    else below_or_at (lub pc (tag_of d e)) (var d (tag_key x))
 test_of d at pc (write site m i e) =
-    if is_dynamic d.world m then yes else below_or_at (lub pc (lub (tag_of d i) (tag_of d e))) (cell (d.name (tag_key m)) (expr d i))
+    if is_dynamic d.world m then yes else below_or_at (lub pc (lub (tag_of d i) (tag_of d e)))
+    (cell (d.name (tag_key m)) (expr d i))
 test_of d at pc (retag site x n) =
-    two And (below_or_at (lub pc (told_tag d n)) (bits d (authority d.world x))) (below_or_at (bits d (authority d.world x)) (new_tag d n))
+    two And (below_or_at (lub pc (told_tag d n)) (bits d (authority d.world x)))
+    (below_or_at (bits d (authority d.world x)) (new_tag d n))
 test_of d at pc (retag_cell site m j n) =
-    two And (below_or_at (lub pc (lub (told_tag d n) (tag_of d j))) (bits d (authority d.world m))) (below_or_at (bits d (authority d.world m)) (new_tag d n))
+    two And (below_or_at (lub pc (lub (told_tag d n) (tag_of d j))) (bits d (authority d.world m)))
+    (below_or_at (bits d (authority d.world m)) (new_tag d n))
 test_of d at pc (go_to site target) =
-    two And (enters d pc target) (if is_dynamic d.world at.state then yes else below_or_at (lub pc (bits d (entry d.world target))) (var d (tag_key at.state)))
+    two And (enters d pc target) (if is_dynamic d.world at.state then yes
+    else below_or_at (lub pc (bits d (entry d.world target))) (var d (tag_key at.state)))
 test_of d at pc (fall_to_child site hang) = child_enters d pc (seat_bits d at.state) (seat_of d at.state) at.children 0
 
--- the level that a step writes
+-- The level that a step writes.
 abbrev pub written : Setting → (pc : Term Name) → Step → Term Name
 written d pc (assign site x e) = lub pc (tag_of d e)
 written d pc (write site m i e) = lub pc (lub (tag_of d i) (tag_of d e))
@@ -139,7 +147,7 @@ written d pc (retag_cell site m j n) = new_tag d n
 written d pc (go_to site target) = pc
 written d pc (fall_to_child site hang) = pc
 
--- the number stays where the level does not fall
+-- The number stays where the level does not fall.
 abbrev pub stays : Setting → Step → Term Name
 stays d (assign site x e) = yes
 stays d (write site m i e) = yes
@@ -148,12 +156,12 @@ stays d (retag_cell site m j n) = below_or_at (cell (d.name (tag_key m)) (expr d
 stays d (go_to site target) = yes
 stays d (fall_to_child site hang) = yes
 
--- each child is dynamic
+-- Each child is dynamic.
 abbrev pub all_dynamic : World → Group → Bool
 all_dynamic w no_node = true
 all_dynamic w (and_node (state_node c b k) g) = is_dynamic w c && all_dynamic w g
 
--- the step is no check site
+-- The step is no check site.
 abbrev pub always : World → Home → Step → Bool
 always w at (assign site x e) = is_dynamic w x
 always w at (write site m i e) = is_dynamic w m

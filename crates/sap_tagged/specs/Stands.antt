@@ -1,4 +1,5 @@
--- When the numbers of a plain program, on the way through a cycle, stand for a store, and what is known of them after a command.
+-- When the numbers of a plain program, on the way through a cycle, stand for a store, and what is known of them after a
+-- command.
 use Rattle.std.specs.Prelude.{◌≡◌, ◌<◌, ℕ, Bool, true, false, not, ◌&&◌, ◌||◌, ◌==◌, nat_eq, nat_lt, List, [], ◌∷◌, bytes_eq, bit_or, if◌then◌else◌}
 use Rattle.sap_maps.specs.Maps.{Name}
 use Rattle.sap_meaning.specs.Program.{World, root, is_dynamic, is_input, is_register, is_memory, width, children}
@@ -24,11 +25,11 @@ pub record Lawful (d : Setting) (widths : Name → ℕ) : Type 0 where
 abbrev pub at : Setting → Going → Key → ℕ
 at d g a = g.now.value (d.name a)
 
--- an entity with one tag: all but an enforced memory
+-- An entity with one tag: all but an enforced memory.
 abbrev pub has_tag : World → ℕ → Bool
 has_tag w x = nat_lt x (root w) && (not (is_memory w x) || is_dynamic w x)
 
--- where it is kept
+-- Where it is kept.
 abbrev pub tag_slot : World → ℕ → Slot
 tag_slot w x = if is_memory w x then next_whole x else own x
 
@@ -39,12 +40,14 @@ pub record Stands (d : Setting) (g : Going) (s : Store) : Type 0 where
   pub seat : (p : ℕ) → 0 < children d.world p → at d g (seat_key p) ≡ child p s
   pub seated : (p : ℕ) → 0 < children d.world p → child p s < children d.world p
   pub starts : (m i : ℕ) → is_memory d.world m ≡ true → g.now.cell (d.name (value_key m)) i ≡ number (start m i) s
-  pub start_tags : (m i : ℕ) → is_memory d.world m ≡ true → is_dynamic d.world m ≡ false → g.now.cell (d.name (tag_key m)) i ≡ d.code (s.level (start m i))
+  pub start_tags : (m i : ℕ) → is_memory d.world m ≡ true → is_dynamic d.world m ≡ false
+      → g.now.cell (d.name (tag_key m)) i ≡ d.code (s.level (start m i))
   pub start_tag : (m : ℕ) → saved d.world m ≡ true → at d g (first_key m) ≡ d.code (s.level (start_whole m))
   pub nexts : (m i : ℕ) → is_memory d.world m ≡ true → g.next (d.name (value_key m)) i ≡ number (next m i) s
-  pub next_tags : (m i : ℕ) → is_memory d.world m ≡ true → is_dynamic d.world m ≡ false → g.next (d.name (tag_key m)) i ≡ d.code (s.level (next m i))
+  pub next_tags : (m i : ℕ) → is_memory d.world m ≡ true → is_dynamic d.world m ≡ false
+      → g.next (d.name (tag_key m)) i ≡ d.code (s.level (next m i))
 
--- the number of a site's first wire after refusals, and of its second, from what they had before
+-- The number of a site's first wire after refusals, and of its second, from what they had before.
 abbrev pub refused_after : ℕ → List Refusal → ℕ → ℕ
 refused_after k [] v = v
 refused_after k (r ∷ rs) v = refused_after k rs (if nat_eq r.site k then 1 else v)
@@ -54,7 +57,8 @@ abbrev pub level_after : (code : ℕ → ℕ) → ℕ → List Refusal → ℕ �
 level_after code k [] v = v
 level_after code k (r ∷ rs) v = level_after code k rs (if nat_eq r.site k then code r.level else v)
 
--- The numbers after what gave `a`, from numbers g: they stand for its store and its refusals, and wires before k are as before.
+-- The numbers after what gave `a`, from numbers g: they stand for its store and its refusals, and wires before k are as
+-- before.
 pub record Turns (d : Setting) (k : ℕ) (g after : Going) (a : After) : Type 0 where
   pub stands : Stands d after a.store
   pub kept : (j : ℕ) → j < k → at d after (wire_key j) ≡ at d g (wire_key j)

@@ -8,7 +8,7 @@ use Rattle.sap_tagged.specs.Setting.{Setting}
 use Rattle.sap_tagged.specs.Levels.{var}
 use Rattle.sap_tagged.specs.Commands.{gives, for_each, raises, wires_block, block_plain}
 
--- how many wires the states of a group have: each has one for its own context
+-- How many wires the states of a group have: each has one for its own context.
 abbrev pub body_wires : State → ℕ
 body_wires t = 1 + wires_block (body_of t)
 
@@ -25,11 +25,12 @@ unfoldable pub group_plain : Setting → (parent k : ℕ) → Group → Forest
 group_plain d parent k no_node = none
 group_plain d parent k (and_node (state_node s b g) rest) =
     state (d.state_name s)
-    (gives d (wire_key k) (var d (inner_key parent)) (block_plain d (record { state = s; parent = parent; children = g }) k (k + 1) b))
+    (gives d (wire_key k) (var d (inner_key parent))
+    (block_plain d (record { state = s; parent = parent; children = g }) k (k + 1) b))
     (group_plain d s (k + 1 + wires_block b) g)
     (group_plain d parent (k + (1 + wires_block b + wires_group g)) rest)
 
--- the tags of dynamic memories are kept as the cycle begins
+-- The tags of dynamic memories are kept as the cycle begins.
 abbrev pub saved : World → ℕ → Bool
 saved w m = is_memory w m && is_dynamic w m
 
@@ -42,6 +43,7 @@ unfoldable pub top_plain : Setting → (hangs : ℕ → Bool) → (k : ℕ) → 
 top_plain d hangs k no_node = none
 top_plain d hangs k (and_node (state_node s b g) rest) =
     state (d.state_name s)
-    (saves d (gives d (wire_key k) (var d (tag_key s)) (raises d hangs k (block_plain d (record { state = s; parent = root d.world; children = g }) k (k + 1) b))))
+    (saves d (gives d (wire_key k) (var d (tag_key s))
+    (raises d hangs k (block_plain d (record { state = s; parent = root d.world; children = g }) k (k + 1) b))))
     (group_plain d s (k + 1 + wires_block b) g)
     (top_plain d hangs (k + (1 + wires_block b + wires_group g)) rest)

@@ -29,11 +29,12 @@ command_body s at p k c = command_plain (setting_in s) (home_in s at) p k (comma
 unfoldable pub commands_body : Setting → Home → (p k : ℕ) → List Command → Body
 commands_body s at p k cs = block_plain (setting_in s) (home_in s at) p k (block_of (entities_in s) cs)
 
--- the blocks of arms
+-- The blocks of arms.
 unfoldable pub arm_bodies : Setting → Home → (p k : ℕ) → List Arm → List Body
 arm_bodies s at p k [] = []
 arm_bodies s at p k (arm ∷ arms) =
-    block_plain (setting_in s) (home_in s at) p k (arm_block (entities_in s) arm) ∷ arm_bodies s at p (k + wires_block (arm_block 0 arm)) arms
+    block_plain (setting_in s) (home_in s at) p k (arm_block (entities_in s) arm)
+    ∷ arm_bodies s at p (k + wires_block (arm_block 0 arm)) arms
 
 -- The plain states of a stored state.
 unfoldable pub state_forest : Setting → (parent k : ℕ) → State → Forest
@@ -43,17 +44,20 @@ state_forest s parent k t = group_plain (setting_in s) parent k (and_node (state
 unfoldable pub states_forest : Setting → (parent k : ℕ) → List State → Forest
 states_forest s parent k ts = group_plain (setting_in s) parent k (group_of (entities_in s) ts)
 
--- of a top-level state
+-- Of a top-level state.
 unfoldable pub top_forest : Setting → (k : ℕ) → State → Forest
 top_forest s k t =
-    top_plain (setting_in s) (program.listed (flags (entities_in s) s.program.now.hang)) k (and_node (state_of (entities_in s) t) no_node)
+    top_plain (setting_in s) (program.listed (flags (entities_in s) s.program.now.hang)) k
+    (and_node (state_of (entities_in s) t) no_node)
 
 -- The plain states of the root's children.
 unfoldable pub tops_forest : Setting → (k : ℕ) → List State → Forest
 tops_forest s k ts =
     top_plain (setting_in s) (program.listed (flags (entities_in s) s.program.now.hang)) k (group_of (entities_in s) ts)
 
--- what comes behind the raises of a step, where `accepted` comes behind its effect, and `refused` is what a refusal does
+-- What comes behind the raises of a step, where `accepted` comes behind its effect, and `refused` is what a refusal
+-- does.
 unfoldable pub decided : pass.Setting → checks.Home → (k : ℕ) → Step → (accepted refused : Body) → Body
 decided d at k s accepted refused =
-    if always d.world at s then follow (effect_of d at k s) accepted else cases (var d (wire_key k)) (follow (effect_of d at k s) accepted) refused stop
+    if always d.world at s then follow (effect_of d at k s) accepted
+    else cases (var d (wire_key k)) (follow (effect_of d at k s) accepted) refused stop

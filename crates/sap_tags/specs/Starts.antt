@@ -9,10 +9,11 @@ use Rattle.sap_ir.specs.Plain.Nested.{Nested}
 use Rattle.sap_interface.specs.StandsFor.{world, StandsFor}
 use Rattle.sap_interface.specs.Designs.{named_of, site_count_of}
 
--- the numbers before the first cycle: registers and memories have their starts, all else is 0
+-- The numbers before the first cycle: registers and memories have their starts, all else is 0.
 abbrev pub plain_initial : Nested → Valuation
 plain_initial p = record { value = register_number None p.registers; cell = cell_at_start None p.memories }
 
--- they stand for the design's first state, with nothing refused
+-- They stand for the design's first state, with nothing refused.
 abbrev pub PlainStartsAsDesign : Levels → DesignTree → Nested → Type 0
-PlainStartsAsDesign ls d p = StandsFor (named_of ls d) (site_count_of d) (plain_initial p) (first (world (named_of ls d))) []
+PlainStartsAsDesign ls d p = StandsFor (named_of ls d) (site_count_of d) (plain_initial p)
+    (first (world (named_of ls d))) []

@@ -11,9 +11,13 @@ use Rattle.sap_program.specs.Views.{count, program_in, names_in, home_of}
 use Rattle.sap_tagged.specs.Setting as pass
 use Rattle.sap_tags_terms.specs.declared.setting.Setting.{Setting}
 
--- a program with the names of its entities and the codes of levels
+-- A program with the names of its entities and the codes of levels.
 abbrev pub named_over : Levels → Program → Named
-named_over ls p = record { program = program_in (order_of ls) p; names = names_in p; code = codes.code_of (order_of ls) }
+named_over ls p = record {
+  program = program_in (order_of ls) p;
+  names = names_in p;
+  code = codes.code_of (order_of ls);
+}
 
 -- The design that the pass works on, with its names.
 abbrev pub named_in : Setting → Named
@@ -31,7 +35,7 @@ setting_in s = pass.setting_of (named_in s) (tag_width s)
 abbrev pub world_in : Setting → World
 world_in s = world (named_in s)
 
--- how many entities there are
+-- How many entities there are.
 abbrev pub entities_in : Setting → ℕ
 entities_in s = count s.program.now
 

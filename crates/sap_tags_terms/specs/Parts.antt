@@ -1,4 +1,5 @@
--- Commands and states in lists: how many wires they have, that their widths are in range, that their cases have few arms.
+-- Commands and states in lists: how many wires they have, that their widths are in range, that their cases have few
+-- arms.
 use Rattle.std.specs.Prelude.{ℕ, List}
 use Rattle.sap_meaning.specs.Program.{last_arm, end_block}
 use Rattle.sap_resolved.specs.Sized.Ranges.{Ranged, RangedArms, RangedBlock, RangedState, RangedGroup}

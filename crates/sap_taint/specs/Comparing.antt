@@ -7,7 +7,8 @@ use Rattle.sap_taint.specs.Runs.{TaggedValuation}
 use Rattle.sap_taint.specs.Alike.{AreRelated}
 use Rattle.sap_taint.specs.Examples.{storing}
 
--- The register v_y has this number with this tag, each cell of the memory v_m has this number, and all of it has this tag. All else is 0 with the tag 0.
+-- The register v_y has this number with this tag, each cell of the memory v_m has this number, and all of it has this
+-- tag. All else is 0 with the tag 0.
 abbrev pub cycle_with : (y y_tag cell m_tag : ℕ) → TaggedValuation
 cycle_with y y_tag cell m_tag = record {
   numbers = record { value = λ name. if bytes_eq name (codes "v_y") then y else 0; cell = λ memory index. cell };

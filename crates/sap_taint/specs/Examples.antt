@@ -7,7 +7,7 @@ use Rattle.sap_net.specs.declared.parts.Memory.{Memory}
 use Rattle.sap_net.specs.declared.parts.PortKind.TheVariants as kind
 use Rattle.sap_net.specs.Net.{Net}
 
--- v_x takes its sum with the input, and v_y what v_x was
+-- `v_x` takes its sum with the input, and v_y what v_x was.
 abbrev pub handing_on : Net
 handing_on =
     record {
@@ -27,13 +27,14 @@ handing_on =
       memories = [];
     }
 
--- the same with tags of one bit
+-- The same with tags of one bit.
 abbrev pub handing_tags_on : Net
 handing_tags_on =
     record {
       module_name = codes "top";
       names =
-          codes "v_a" ∷ codes "t_a" ∷ codes "v_x" ∷ codes "t_x" ∷ codes "v_y" ∷ codes "t_y" ∷ codes "n1" ∷ codes "t_n1" ∷ [];
+          codes "v_a" ∷ codes "t_a" ∷ codes "v_x" ∷ codes "t_x" ∷ codes "v_y" ∷ codes "t_y" ∷ codes "n1"
+          ∷ codes "t_n1" ∷ [];
       ports =
           record { name = codes "v_a"; kind = kind.Input }
           ∷ record { name = codes "t_a"; kind = kind.Input }
@@ -56,7 +57,7 @@ handing_tags_on =
       memories = [];
     }
 
--- two registers that hand each other their numbers, and their tags
+-- Two registers that hand each other their numbers, and their tags.
 abbrev pub swapping : Net
 swapping =
     record {
@@ -79,7 +80,7 @@ swapping =
       memories = [];
     }
 
--- a memory whose first cell takes v_d where v_e is 1
+-- A memory whose first cell takes v_d where v_e is 1.
 abbrev pub stored : Memory
 stored =
     record {
@@ -92,7 +93,7 @@ stored =
       value = Named (codes "v_d");
     }
 
--- v_y takes what that cell was
+-- `v_y` takes what that cell was.
 abbrev pub storing : Net
 storing =
     record {
@@ -109,13 +110,14 @@ storing =
       memories = stored ∷ [];
     }
 
--- the same with tags of two bits, and three helping wires for what the memory's tag takes
+-- The same with tags of two bits, and three helping wires for what the memory's tag takes.
 abbrev pub storing_tags : Net
 storing_tags =
     record {
       module_name = codes "top";
       names =
-          codes "v_e" ∷ codes "t_e" ∷ codes "v_d" ∷ codes "t_d" ∷ codes "v_y" ∷ codes "t_y" ∷ codes "n1" ∷ codes "t_n1" ∷ codes "v_m" ∷ codes "t_m"
+          codes "v_e" ∷ codes "t_e" ∷ codes "v_d" ∷ codes "t_d" ∷ codes "v_y" ∷ codes "t_y" ∷ codes "n1"
+          ∷ codes "t_n1" ∷ codes "v_m" ∷ codes "t_m"
           ∷ codes "n2" ∷ codes "n3" ∷ codes "n4" ∷ [];
       ports =
           record { name = codes "v_e"; kind = kind.Input }
@@ -135,7 +137,11 @@ storing_tags =
           record { name = codes "n1"; width = 8; right = Cell (codes "v_m") (Constant 1 0) }
           ∷ record { name = codes "t_n1"; width = 2; right = Copy (Named (codes "t_m")) }
           ∷ record { name = codes "n2"; width = 2; right = Two Or (Named (codes "t_m")) (Named (codes "t_e")) }
-          ∷ record { name = codes "n3"; width = 2; right = Choose (Named (codes "v_e")) (Named (codes "t_d")) (Constant 2 0) }
+          ∷ record {
+            name = codes "n3";
+            width = 2;
+            right = Choose (Named (codes "v_e")) (Named (codes "t_d")) (Constant 2 0);
+          }
           ∷ record { name = codes "n4"; width = 2; right = Two Or (Named (codes "n2")) (Named (codes "n3")) }
           ∷ [];
       registers =

@@ -27,9 +27,10 @@ NoClashWithRoom n = (x : Name) → IsClash n x → HasRoomForTags n → ⊥
 abbrev pub OneClash : Net → Type 0
 OneClash n = (x y : Name) → IsClash n x → IsClash n y → x ≡ y
 
--- two runs are so related in each cycle, and in what is seen of it
+-- Two runs are so related in each cycle, and in what is seen of it.
 abbrev pub Throughout : Relation → Net → List TaggedValuation → List TaggedValuation → Type 0
-Throughout R n cs ds = RunsRelated R n cs ds × RunsRelated R n (map (observed_with_tags n) cs) (map (observed_with_tags n) ds)
+Throughout R n cs ds = RunsRelated R n cs ds
+    × RunsRelated R n (map (observed_with_tags n) cs) (map (observed_with_tags n) ds)
 
 -- Every run has its taint, whatever the tags of the inputs.
 abbrev pub SomeTaint : Net → Type 0
@@ -40,13 +41,14 @@ SomeTaint n =
 -- And one alone.
 abbrev pub OneTaint : Net → Type 0
 OneTaint n =
-    (xss : List (List TaggedNumber)) (cs ds : List TaggedValuation) → IsTaintedRun n xss cs → IsTaintedRun n xss ds → Throughout Equal n cs ds
+    (xss : List (List TaggedNumber)) (cs ds : List TaggedValuation) → IsTaintedRun n xss cs
+    → IsTaintedRun n xss ds → Throughout Equal n cs ds
 
--- the tags of all inputs are codes of levels
+-- The tags of all inputs are codes of levels.
 abbrev pub AreCoded : Order → List (List TaggedNumber) → Type 0
 AreCoded o xss = AllByRecursion (AllByRecursion (λ x. IsCode o x.tag)) xss
 
--- all tags of a cycle are
+-- All tags of a cycle are.
 pub record HasCodes (o : Order) (n : Net) (c : TaggedValuation) : Type 0 where
   pub value : (x : Name) (w : ℕ) → find (readable n) x ≡ Some w → IsCode o (c.tags.value x)
   pub memory : (m : Name) (s : ℕ × ℕ) → find (shapes n) m ≡ Some s → IsCode o (c.tags.memory m)
@@ -57,13 +59,14 @@ CodesStayCodes o n =
     (xss : List (List TaggedNumber)) (cs : List TaggedValuation) → AreCoded o xss → IsTaintedRun n xss cs
     → AllByRecursion (HasCodes o n) cs × AllByRecursion (HasCodes o n) (map (observed_with_tags n) cs)
 
--- Runs on inputs that look alike to one to whom the tags within c are low look alike to him in every cycle, whatever numbers tags are.
+-- Runs on inputs that look alike to one to whom the tags within c are low look alike to him in every cycle, whatever
+-- numbers tags are.
 abbrev pub AlikeThroughout : Net → Type 0
 AlikeThroughout n =
     (c : ℕ) (xss yss : List (List TaggedNumber)) (cs ds : List TaggedValuation) → StreamsRelated (AlikeWithin c) xss yss
     → IsTaintedRun n xss cs → IsTaintedRun n yss ds → Throughout (AlikeWithin c) n cs ds
 
--- levels given as codes
+-- Levels given as codes.
 abbrev pub with_codes : Order → List Tagged → List TaggedNumber
 with_codes o inputs = map (λ x. record { number = x.number; tag = code_of o x.level }) inputs
 
@@ -75,9 +78,11 @@ stream_with_codes o stream = map (with_codes o) stream
 abbrev pub AreLevels : Order → List (List Tagged) → Type 0
 AreLevels o stream = AllByRecursion (AllByRecursion (λ x. x.level < o.count)) stream
 
--- Runs on streams that agree at l agree there in every cycle: their tags are the codes of levels, by which they look alike at l.
+-- Runs on streams that agree at l agree there in every cycle: their tags are the codes of levels, by which they look
+-- alike at l.
 abbrev pub AgreeThroughout : Order → Net → Type 0
 AgreeThroughout o n =
-    (l : ℕ) (a b : List (List Tagged)) (cs ds : List TaggedValuation) → AreLevels o a → AreLevels o b → StreamsAgree o l a b
+    (l : ℕ) (a b : List (List Tagged)) (cs ds : List TaggedValuation) → AreLevels o a → AreLevels o b
+    → StreamsAgree o l a b
     → IsTaintedRun n (stream_with_codes o a) cs → IsTaintedRun n (stream_with_codes o b) ds
     → Throughout (LookAlike o (code_of o) l) n cs ds

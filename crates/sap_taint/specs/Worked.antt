@@ -38,15 +38,18 @@ pub record WorkedClashes : Type 0 where
   pub with_tag : IsClash (record handing_on { names = codes "v_x" ∷ codes "x" ∷ [] }) (codes "x")
   pub with_module : IsClash (record handing_on { module_name = codes "t_y" }) (codes "v_y")
 
--- the names a, b and c have the tags 1, 2 and 4 here, and every memory the tag 8
+-- The names a, b and c have the tags 1, 2 and 4 here, and every memory the tag 8.
 abbrev some_tags : Tags
-some_tags = record { value = λ x. unwrap_or (find ((codes "a", 1) ∷ (codes "b", 2) ∷ (codes "c", 4) ∷ []) x) 0; memory = λ _. 8 }
+some_tags = record {
+  value = λ x. unwrap_or (find ((codes "a", 1) ∷ (codes "b", 2) ∷ (codes "c", 4) ∷ []) x) 0;
+  memory = λ _. 8;
+}
 
 -- The right side has this tag, where the names' tags are those of the example.
 abbrev HasTag : Right → ℕ → Type 0
 HasTag right tag = right_tag some_tags right ≡ tag
 
--- every name is n here, and every cell 0
+-- Every name is n here, and every cell 0.
 abbrev all_are : ℕ → Valuation
 all_are n = record { value = λ _. n; cell = λ _ _. 0 }
 
@@ -86,33 +89,37 @@ pub record WorkedTags : Type 0 where
   pub not_written : TakesTag (all_are 0) 12
   pub written : TakesTag (all_are 1) 15
 
--- a name has this number, with this tag
+-- A name has this number, with this tag.
 abbrev Has : TaggedValuation → Name → (number tag : ℕ) → Type 0
 Has c x number tag = (c.numbers.value x ≡ number) × (c.tags.value x ≡ tag)
 
--- the first cell of a memory has this number, all cells this tag
+-- The first cell of a memory has this number, all cells this tag.
 abbrev HasCell : TaggedValuation → Name → (number tag : ℕ) → Type 0
 HasCell c m number tag = (c.numbers.cell m 0 ≡ number) × (c.tags.memory m ≡ tag)
 
--- 5 with the tag 1, and then 1 with the tag 0
+-- The register hands on 5 with the tag 1, and then 1 with the tag 0.
 abbrev pub HandsOn : Type 0
 HandsOn =
     (c d : TaggedValuation)
-    → IsTaintedRun handing_on ((record { number = 5; tag = 1 } ∷ []) ∷ (record { number = 1; tag = 0 } ∷ []) ∷ []) (c ∷ d ∷ [])
+    → IsTaintedRun handing_on ((record { number = 5; tag = 1 } ∷ [])
+    ∷ (record { number = 1; tag = 0 } ∷ []) ∷ []) (c ∷ d ∷ [])
     → let first = observed_with_tags handing_on c in let second = observed_with_tags handing_on d in
-    Has first (codes "v_x") 5 1 × Has first (codes "v_y") 0 0 × Has second (codes "v_x") 6 1 × Has second (codes "v_y") 5 1
+    Has first (codes "v_x") 5 1 × Has first (codes "v_y") 0 0 × Has second (codes "v_x") 6 1
+    × Has second (codes "v_y") 5 1
 
--- Nothing is written in the first cycle, where the condition is 0 with the tag 1 and the value has the tag 2; 7 is in the second, where the condition is 1 with
--- the tag 0. The memory takes the condition's tag in the first cycle, the value's in the second, and keeps both; v_y takes the cell as it was, with the
--- memory's tag of then.
+-- Nothing is written in the first cycle, where the condition is 0 with the tag 1 and the value has the tag 2; 7 is in
+-- the second, where the condition is 1 with the tag 0. The memory takes the condition's tag in the first cycle, the
+-- value's in the second, and keeps both; v_y takes the cell as it was, with the memory's tag of then.
 abbrev pub Stores : Type 0
 Stores =
     (c d : TaggedValuation)
     → IsTaintedRun storing
-    ((record { number = 0; tag = 1 } ∷ record { number = 5; tag = 2 } ∷ []) ∷ (record { number = 1; tag = 0 } ∷ record { number = 7; tag = 2 } ∷ []) ∷ [])
+    ((record { number = 0; tag = 1 } ∷ record { number = 5; tag = 2 } ∷ [])
+    ∷ (record { number = 1; tag = 0 } ∷ record { number = 7; tag = 2 } ∷ []) ∷ [])
     (c ∷ d ∷ [])
     → let first = observed_with_tags storing c in let second = observed_with_tags storing d in
-    HasCell first (codes "v_m") 0 1 × Has first (codes "v_y") 0 0 × HasCell second (codes "v_m") 7 3 × Has second (codes "v_y") 0 1
+    HasCell first (codes "v_m") 0 1 × Has first (codes "v_y") 0 0 × HasCell second (codes "v_m") 7 3
+    × Has second (codes "v_y") 0 1
 
 -- They are netlists, so those two have such runs.
 pub record AreNetlists : Type 0 where

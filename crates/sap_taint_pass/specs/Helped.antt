@@ -10,11 +10,11 @@ use Rattle.sap_taint.specs.TaggedForm.{tagged_ports, tagged_inputs}
 use Rattle.sap_taint_pass.specs.Tainted.{tagged_registers, tag_wires, help_for_wires, write_wires, memory_tags, help_count, numbers_from}
 use Rattle.sap_taint_pass.specs.Helping.{helping_name}
 
--- some names for helping wires, from the k-th on
+-- Some names for helping wires, from the k-th on.
 abbrev pub help_from : Net → (k count : ℕ) → List Name
 help_from n k count = map (helping_name n) (numbers_from k count)
 
--- m declares the names of n and their tags, and k helping wires
+-- `m` declares the names of n and their tags, and k helping wires.
 pub record Helped (n : Net) (k : ℕ) (m : Net) : Type 0 where
   pub module_named : m.module_name ≡ n.module_name
   pub names : m.names ≡ with_tags n.names ++ help_from n 0 k
@@ -23,14 +23,14 @@ pub record Helped (n : Net) (k : ℕ) (m : Net) : Type 0 where
 abbrev pub Adds : (n : Net) (k count : ℕ) → List Wire → List Register → (old new : Net) → Type 0
 Adds n k count ws rs old new = new ≡ grown (help_from n k count) ws rs old
 
--- the four names from the k-th on
+-- The four names from the k-th on.
 pub record AreWriteNames (helping : ℕ → Name) (k : ℕ) (kept new chosen all : Name) : Type 0 where
   pub first : kept ≡ helping k
   pub second : new ≡ helping (k + 1)
   pub third : chosen ≡ helping (k + 2)
   pub fourth : all ≡ helping (k + 3)
 
--- what the tainted netlist has before any wire of a tag and any tag of a memory, its registers in another order
+-- What the tainted netlist has before any wire of a tag and any tag of a memory, its registers in another order.
 abbrev pub begun : (w : ℕ) → Net → Net
 begun w n =
     record {
@@ -43,9 +43,10 @@ begun w n =
       memories = n.memories;
     }
 
--- and with them
+-- And with them.
 abbrev pub driven : (w : ℕ) → Net → Net
 driven w n =
     let helping = helping_name n in
     let k = help_for_wires n.wires in
-    grown (help_from n 0 (help_count n)) (tag_wires helping w 0 n.wires ++ write_wires helping w k n.memories) (memory_tags helping w k n.memories) (begun w n)
+    grown (help_from n 0 (help_count n)) (tag_wires helping w 0 n.wires
+    ++ write_wires helping w k n.memories) (memory_tags helping w k n.memories) (begun w n)

@@ -6,7 +6,7 @@ use Rattle.sap_net.specs.Names.{is_name, is_among, helper}
 use Rattle.sap_taint.specs.TagNames.{with_tags}
 use Rattle.sap_taint_pass.specs.Tainted.{help_count, tainted_by}
 
--- what no helping wire can be named
+-- What no helping wire can be named.
 abbrev pub taken_names : Net → List Name
 taken_names n = n.module_name ∷ with_tags n.names
 
@@ -14,7 +14,7 @@ taken_names n = n.module_name ∷ with_tags n.names
 unfoldable pub numbered : ℕ → Name
 numbered k = if nat_lt k (2 ^ 64) then helper k else replicate k 0
 
--- the first number from k on whose name isn't taken, looked for at most so many numbers further
+-- The first number from k on whose name isn't taken, looked for at most so many numbers further.
 abbrev pub free_from : (taken : List Name) (k tries : ℕ) → ℕ
 free_from taken k zero = k
 free_from taken k (suc tries) = if is_among (numbered k) taken then free_from taken (k + 1) tries else k
@@ -23,7 +23,7 @@ free_from taken k (suc tries) = if is_among (numbered k) taken then free_from ta
 abbrev pub next_free : (taken : List Name) (k : ℕ) → ℕ
 next_free taken k = free_from taken k (length taken)
 
--- the free numbers from 1 on
+-- The free numbers from 1 on.
 abbrev pub free_number : (taken : List Name) (k : ℕ) → ℕ
 free_number taken zero = next_free taken 1
 free_number taken (suc k) = next_free taken (free_number taken k + 1)
@@ -32,7 +32,7 @@ free_number taken (suc k) = next_free taken (free_number taken k + 1)
 abbrev pub helping_name : Net → (k : ℕ) → Name
 helping_name n k = numbered (free_number (taken_names n) k)
 
--- names of their own for helping wires, as many as are used
+-- Names of their own for helping wires, as many as are used.
 pub record AreHelping (n : Net) (helping : ℕ → Name) : Type 0 where
   pub named : (k : ℕ) → k < help_count n → is_name (helping k) ≡ true
   pub apart : (j k : ℕ) → helping j ≡ helping k → j ≡ k
@@ -42,6 +42,6 @@ pub record AreHelping (n : Net) (helping : ℕ → Name) : Type 0 where
 abbrev pub IsSmall : Net → Type 0
 IsSmall n = length (taken_names n) + help_count n < 2 ^ 64
 
--- the netlist with a tag of w bits for each name
+-- The netlist with a tag of w bits for each name.
 abbrev pub tainted : (w : ℕ) → Net → Net
 tainted w n = tainted_by (helping_name n) w n

@@ -7,14 +7,15 @@ use Rattle.sap_taint.specs.TagNames.{HasRoomForTags}
 use Rattle.sap_taint.specs.Carries.{CarriesTaint}
 use Rattle.sap_taint_pass.specs.Helping.{AreHelping, IsSmall, helping_name, tainted}
 
--- helping wires have names of their own
+-- Helping wires have names of their own.
 abbrev pub HelpIsNamed : Type 0
 HelpIsNamed = (n : Net) → IsNetlist n → IsSmall n → AreHelping n (helping_name n)
 
--- a netlist with tags is one
+-- A netlist with tags is one.
 abbrev pub TaintedIsNetlist : Type 0
 TaintedIsNetlist = (w : ℕ) (n : Net) → IsWidth w → IsNetlist n → HasRoomForTags n → IsSmall n → IsNetlist (tainted w n)
 
--- and it carries the taint of the one without
+-- And it carries the taint of the one without.
 abbrev pub TaintedCarries : Type 0
-TaintedCarries = (w : ℕ) (n : Net) → IsWidth w → IsNetlist n → HasRoomForTags n → IsSmall n → CarriesTaint w n (tainted w n)
+TaintedCarries = (w : ℕ) (n : Net) → IsWidth w → IsNetlist n → HasRoomForTags n → IsSmall n
+    → CarriesTaint w n (tainted w n)

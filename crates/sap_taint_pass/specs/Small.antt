@@ -8,7 +8,7 @@ use Rattle.sap_size.specs.Items.{items}
 use Rattle.sap_taint.specs.TagNames.{HasRoomForTags}
 use Rattle.sap_taint_pass.specs.Helping.{tainted}
 
--- how many operands are concatenated
+-- How many operands are concatenated.
 abbrev pub concatenated : Right → ℕ
 concatenated (Copy a) = 0
 concatenated (One op a) = 0
@@ -23,9 +23,11 @@ abbrev pub all_concatenated : List Wire → ℕ
 all_concatenated [] = 0
 all_concatenated (x ∷ xs) = concatenated x.right + all_concatenated xs
 
--- At most three items for each wire, two for each register and six for each memory, and one more for each operand of a `{}`.
+-- At most three items for each wire, two for each register and six for each memory, and one more for each operand of a
+-- `{}`.
 abbrev pub HasFewItems : (n m : Net) → Type 0
-HasFewItems n m = items m ≤ 3 * length n.wires + 2 * length n.registers + 6 * length n.memories + all_concatenated n.wires
+HasFewItems n m = items m ≤ 3 * length n.wires + 2 * length n.registers + 6 * length n.memories
+    + all_concatenated n.wires
 
 -- For each netlist with room for tags, the netlist with tags has few more items.
 abbrev pub TaintedIsSmall : Type 0

@@ -3,21 +3,22 @@ use Rattle.std.specs.Prelude.{ℕ, ◌+◌, List, [], ◌∷◌, ◌++◌, ◌==
 use Rattle.std.specs.Fmt.{decimal}
 use Rattle.sap_text.specs.declared.place.Place.{Place}
 
--- the end of a line
+-- The end of a line.
 abbrev pub line_end : List ℕ
 line_end = 10 ∷ []
 
--- a line and its end
+-- A line and its end.
 abbrev pub line : List ℕ → List ℕ
 line text = text ++ line_end
 
--- LINE:COL
+-- LINE:COL.
 abbrev pub place_text : Place → List ℕ
 place_text place = decimal place.line ++ codes ":" ++ decimal place.column
 
 -- `next_place` is the place behind a byte.
 abbrev pub next_place : Place → ℕ → Place
-next_place place b = if b == 10 then record { line = place.line + 1; column = 1 } else record { line = place.line; column = place.column + 1 }
+next_place place b = if b == 10 then record { line = place.line + 1; column = 1 }
+    else record { line = place.line; column = place.column + 1 }
 
 -- `place_after` is the place behind these bytes.
 abbrev pub place_after : Place → List ℕ → Place

@@ -5,6 +5,6 @@ use Rattle.sap_lattice.specs.Codes.{code_of}
 use Rattle.sap_meaning.specs.Cycle.{Tagged}
 use Rattle.sap_interface.specs.Compiled.{coded}
 
--- of each field its value, and the code of its level
+-- Of each field its value, and the code of its level.
 abbrev pub given : Levels → List Tagged → List ℕ
 given ls = coded (code_of (order_of ls))

@@ -1,5 +1,5 @@
--- The lines of a trace: one for each refusal of a cycle, `cycle N: site K KIND NAME at LEVEL`, with its LF. NAME is the target, for `fall` the state in whose body
--- it stands; LEVEL is that at which the site is refused.
+-- The lines of a trace: one for each refusal of a cycle, `cycle N: site K KIND NAME at LEVEL`, with its LF. NAME is the
+-- target, for `fall` the state in whose body it stands; LEVEL is that at which the site is refused.
 use Rattle.std.specs.Prelude.{ℕ, ◌-◌, List, [], ◌++◌, codes, Option, Some, None, slice_get, flat_map}
 use Rattle.std.specs.Fmt.{decimal}
 use Rattle.sap_lattice.specs.Levels.{Levels}
@@ -21,16 +21,16 @@ use Rattle.sap_sim.specs.Labelled.LabelledRows.{level_name}
 unfoldable pub line_head : (cycle k : ℕ) → List ℕ
 line_head cycle k = codes "cycle " ++ decimal cycle ++ codes ": site " ++ decimal k ++ codes " "
 
--- `KIND NAME`
+-- `KIND NAME`.
 abbrev pub target_text : List Entity → Option Site → List ℕ
 target_text es None = []
 target_text es (Some s) = site_target es s
 
--- the design's site of this number, from 1
+-- The design's site of this number, from 1.
 abbrev pub site_at : DesignTree → (k : ℕ) → Option Site
 site_at d k = slice_get (sites_of d) (k - 1)
 
--- the line up to the level
+-- The line up to the level.
 abbrev pub line_before : DesignTree → (cycle k : ℕ) → List ℕ
 line_before d cycle k = line_head cycle k ++ target_text (entities_of d) (site_at d k) ++ codes " at "
 
@@ -42,7 +42,7 @@ site_line d cycle k level = line_before d cycle k ++ level ++ line_end
 abbrev pub refusal_line : Levels → DesignTree → (cycle : ℕ) → Refusal → List ℕ
 refusal_line ls d cycle r = site_line d cycle r.site (level_name ls r.level)
 
--- in the order of the list
+-- In the order of the list.
 abbrev pub refusal_lines : Levels → DesignTree → (cycle : ℕ) → List Refusal → List ℕ
 refusal_lines ls d cycle rs = flat_map (refusal_line ls d cycle) rs
 
@@ -50,6 +50,6 @@ refusal_lines ls d cycle rs = flat_map (refusal_line ls d cycle) rs
 abbrev pub trace_of_run : Levels → DesignTree → (cycle : ℕ) → List After → List ℕ
 trace_of_run ls d = told_from (λ cycle (a : After). refusal_lines ls d cycle a.refused)
 
--- the lines of a design's labelled run on a stream, its cycles counted from 1
+-- The lines of a design's labelled run on a stream, its cycles counted from 1.
 abbrev pub labelled_trace : Levels → DesignTree → List (List Tagged) → List ℕ
 labelled_trace ls d stream = trace_of_run ls d 1 (labelled_run (program_of ls d) stream)

@@ -17,17 +17,18 @@ use Rattle.sap_sim.specs.Told.{told_from}
 use Rattle.sap_trace.specs.declared.wires.Wires.{Wires}
 use Rattle.sap_trace.specs.Lines.{site_line}
 
--- two wires for each check site, as in the interface of a compiled module
+-- Two wires for each check site, as in the interface of a compiled module.
 abbrev pub HasSiteWires : Levels → DesignTree → Net → Type 0
 HasSiteWires ls d n = (k : ℕ) → 1 ≤ k → k ≤ length (sites_of d)
-    → (find (declared_by n).wires (refused_name k) ≡ Some 1) × (find (declared_by n).wires (refused_level_name k) ≡ Some (width_of (order_of ls)))
+    → (find (declared_by n).wires (refused_name k) ≡ Some 1)
+    × (find (declared_by n).wires (refused_level_name k) ≡ Some (width_of (order_of ls)))
 
--- so their names can be read, up to site `count`
+-- So their names can be read, up to site `count`.
 pub record AreReadable (n : Net) (count : ℕ) : Type 0 where
   pub refused : (k : ℕ) → 1 ≤ k → k ≤ count → find (readable n) (refused_name k) ≢ None
   pub levels : (k : ℕ) → 1 ≤ k → k ≤ count → find (readable n) (refused_level_name k) ≢ None
 
--- the places of the wires that a site's number gives the names of
+-- The places of the wires that a site's number gives the names of.
 pub record ArePlaced (n : Net) (names : ℕ → Name) (count : ℕ) (places : List ℕ) : Type 0 where
   pub count_is : length places ≡ count
   pub within : (k : ℕ) → k < count → get_or places k 0 < length (value_names n)
@@ -38,24 +39,24 @@ pub record AreWires (n : Net) (count : ℕ) (w : Wires) : Type 0 where
   pub refused : ArePlaced n refused_name count w.refused.items
   pub levels : ArePlaced n refused_level_name count w.levels.items
 
--- the name of the level whose code this is
+-- The name of the level whose code this is.
 abbrev pub coded_name : Levels → (tag : ℕ) → List ℕ
 coded_name ls tag = level_text (option_map (name_at ls.names) (level_coded ls tag)) tag
 
--- the line of a site that is refused
+-- The line of a site that is refused.
 abbrev pub seen_line : Levels → DesignTree → (cycle k : ℕ) → Valuation → List ℕ
 seen_line ls d cycle k v =
     if v.value (refused_name k) == 1 then site_line d cycle k (coded_name ls (v.value (refused_level_name k))) else []
 
--- those of `count` sites from site k on
+-- Those of `count` sites from site k on.
 abbrev pub seen_lines : Levels → DesignTree → (cycle k count : ℕ) → Valuation → List ℕ
 seen_lines ls d cycle k zero v = []
 seen_lines ls d cycle k (suc count) v = seen_line ls d cycle k v ++ seen_lines ls d cycle (suc k) count v
 
--- and of all sites of a design
+-- And of all sites of a design.
 abbrev pub cycle_lines : Levels → DesignTree → (cycle : ℕ) → Valuation → List ℕ
 cycle_lines ls d cycle v = seen_lines ls d cycle 1 (length (sites_of d)) v
 
--- in each cycle
+-- In each cycle.
 abbrev pub lines_from : Levels → DesignTree → (cycle : ℕ) → List Valuation → List ℕ
 lines_from ls d = told_from (cycle_lines ls d)

@@ -1,4 +1,5 @@
--- The lines of the trace of a netlist that stands for a design, and is stepped on the lines of a stimulus, one after another.
+-- The lines of the trace of a netlist that stands for a design, and is stepped on the lines of a stimulus, one after
+-- another.
 use Rattle.std.specs.Prelude.{◌≡◌, ℕ, ◌+◌, List, [], ◌∷◌, ◌++◌, All, Option, length}
 use Rattle.sap_tree.specs.Syntax.{DesignTree}
 use Rattle.sap_lattice.specs.Levels.{Levels}
@@ -19,7 +20,7 @@ use Rattle.sap_trace.specs.Rooms.{HoldsCycle}
 use Rattle.sap_trace.specs.Seen.{AreWires, cycle_lines}
 use Rattle.sap_trace.specs.TraceOf.{IsTraceOf, Trace}
 
--- the netlist stands for the design, and the wires of its check sites, its fields and its room are the design's
+-- The netlist stands for the design, and the wires of its check sites, its fields and its room are the design's.
 pub record IsPlanned (ls : Levels) (d : DesignTree) (s : Stepped Wires) : Type 0 where
   pub stands : StandsForDesign ls d s.runner.net
   pub wires : AreWires s.runner.net (length (sites_of d)) s.plan
@@ -27,15 +28,16 @@ pub record IsPlanned (ls : Levels) (d : DesignTree) (s : Stepped Wires) : Type 0
   pub sized : All IsSized s.fields
   pub room : HoldsCycle ls d s.room
 
--- this netlist, stepped on these lines
+-- This netlist, stepped on these lines.
 abbrev pub IsAfter : Levels → DesignTree → Net → (lines : List (List Given)) → Stepped Wires → Type 0
 IsAfter ls d n = stepped.IsAfter (IsPlanned ls d) n (given ls)
 
--- behind the old bytes stand the lines of the sites that the last of these cycles refuses
-abbrev pub HasLinesMore : Levels → DesignTree → Net → (lines : List (List Given)) → (cycle : ℕ) → (old now : List ℕ) → Type 0
+-- Behind the old bytes stand the lines of the sites that the last of these cycles refuses.
+abbrev pub HasLinesMore : Levels → DesignTree → Net → (lines : List (List Given)) → (cycle : ℕ)
+    → (old now : List ℕ) → Type 0
 HasLinesMore ls d n = TellsMore (cycle_lines ls d) n (given ls)
 
--- the lines of all these cycles, counted from 1
+-- The lines of all these cycles, counted from 1.
 abbrev pub AreLines : Levels → DesignTree → Net → (lines : List (List Given)) → (text : List ℕ) → Type 0
 AreLines ls d n = TellsAll (cycle_lines ls d) n (given ls)
 
@@ -49,11 +51,15 @@ pub record LinesAddUp (ls : Levels) (d : DesignTree) (n : Net) : Type 0 where
   pub begins : AreLines ls d n [] []
   -- with a cycle more come its lines
   pub goes_on : (lines : List (List Given)) (line : List Given) (text more : List ℕ) → AreLines ls d n lines text
-      → HasLinesMore ls d n (lines ++ line ∷ []) (length lines + 1) [] more → AreLines ls d n (lines ++ line ∷ []) (text ++ more)
+      → HasLinesMore ls d n (lines ++ line ∷ []) (length lines + 1) [] more
+      → AreLines ls d n (lines ++ line ∷ []) (text ++ more)
   -- those of all cycles are the lines of the labelled run
-  pub all : (bytes : List ℕ) → AreLines ls d n (read_for ls d bytes).stream (labelled_trace ls d (read_for ls d bytes).stream)
+  pub all : (bytes : List ℕ) → AreLines ls d n (read_for ls d bytes).stream
+      (labelled_trace ls d (read_for ls d bytes).stream)
   -- with all cycles the lines are all
-  pub whole : (bytes text : List ℕ) → AreLines ls d n (read_for ls d bytes).stream text → IsTraceOf ls d bytes (trace_as text (read_for ls d bytes).fault)
+  pub whole : (bytes text : List ℕ) → AreLines ls d n (read_for ls d bytes).stream text
+      → IsTraceOf ls d bytes (trace_as text (read_for ls d bytes).fault)
   -- with the first cycles they begin the whole text
-  pub part : (bytes text : List ℕ) (lines more : List (List Given)) (trace : Trace) → (read_for ls d bytes).stream ≡ lines ++ more
+  pub part : (bytes text : List ℕ) (lines more : List (List Given)) (trace : Trace)
+      → (read_for ls d bytes).stream ≡ lines ++ more
       → AreLines ls d n lines text → IsTraceOf ls d bytes trace → (rest : List ℕ) × (trace.text ≡ text ++ rest)

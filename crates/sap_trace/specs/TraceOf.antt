@@ -6,12 +6,12 @@ use Rattle.sap_stim.specs.declared.fault.StimFault.{StimFault}
 use Rattle.sap_sim.specs.Labelled.RunOf.{read_for}
 use Rattle.sap_trace.specs.Lines.{labelled_trace}
 
--- the lines of the cycles before the first refused line of a stimulus, and that line, where there is one
+-- The lines of the cycles before the first refused line of a stimulus, and that line, where there is one.
 pub record Trace : Type 0 where
   pub text : List ℕ
   pub fault : Option StimFault
 
--- the fault is that of the stimulus, and the text has the lines of the labelled run on the lines before it
+-- The fault is that of the stimulus, and the text has the lines of the labelled run on the lines before it.
 pub record IsTraceOf (ls : Levels) (d : DesignTree) (bytes : List ℕ) (t : Trace) : Type 0 where
   pub fault : t.fault ≡ (read_for ls d bytes).fault
   pub text : t.text ≡ labelled_trace ls d (read_for ls d bytes).stream

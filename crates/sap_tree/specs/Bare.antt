@@ -62,7 +62,8 @@ unfoldable pub bare_simple : SimpleCommand → SimpleCommand
 bare_simple (assign register x) = assign (bare_name register) (bare_expression x)
 bare_simple (write memory index x) = write (bare_name memory) (bare_expression index) (bare_expression x)
 bare_simple (set_tag place name n) = set_tag nowhere (bare_name name) (bare_tag n)
-bare_simple (set_cell_tag place memory index n) = set_cell_tag nowhere (bare_name memory) (bare_expression index) (bare_tag n)
+bare_simple (set_cell_tag place memory index n) =
+    set_cell_tag nowhere (bare_name memory) (bare_expression index) (bare_tag n)
 bare_simple (go_to place target) = go_to nowhere (bare_name target)
 bare_simple (fall_to_child place) = fall_to_child nowhere
 
@@ -108,13 +109,16 @@ bare_start (Some n) = Some (bare_number n)
 -- A declaration without places.
 abbrev pub bare_declaration : Decl → Decl
 bare_declaration (d.Input place name width) = d.Input nowhere (bare_name name) (bare_number width)
-bare_declaration (d.Register place name width kind start) = d.Register nowhere (bare_name name) (bare_number width) (bare_kind kind) (bare_start start)
-bare_declaration (d.Memory place name width depth kind) = d.Memory nowhere (bare_name name) (bare_number width) (bare_number depth) (bare_kind kind)
+bare_declaration (d.Register place name width kind start) =
+    d.Register nowhere (bare_name name) (bare_number width) (bare_kind kind) (bare_start start)
+bare_declaration (d.Memory place name width depth kind) =
+    d.Memory nowhere (bare_name name) (bare_number width) (bare_number depth) (bare_kind kind)
 
 -- A state without places.
 unfoldable mutual
   pub bare_state : StateTree → StateTree
-  bare_state (state_node place name kind body children) = state_node nowhere (bare_name name) (bare_kind kind) (bare_block body) (bare_states children)
+  bare_state (state_node place name kind body children) =
+      state_node nowhere (bare_name name) (bare_kind kind) (bare_block body) (bare_states children)
 
   pub bare_states : StateList → StateList
   bare_states no_state = no_state
@@ -122,4 +126,8 @@ unfoldable mutual
 
 -- The tree of a design without places: two texts that differ only in layout have the same.
 unfoldable pub bare : DesignTree → DesignTree
-bare design = record { version = design.version; declarations = map bare_declaration design.declarations; states = bare_states design.states }
+bare design = record {
+  version = design.version;
+  declarations = map bare_declaration design.declarations;
+  states = bare_states design.states;
+}

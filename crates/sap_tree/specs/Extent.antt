@@ -1,15 +1,15 @@
--- How many tokens an expression has, and how many of its brackets are open at once, where an operand stands in parentheses exactly where it binds
--- looser than its place asks for.
+-- How many tokens an expression has, and how many of its brackets are open at once, where an operand stands in
+-- parentheses exactly where it binds looser than its place asks for.
 use Rattle.std.specs.Prelude.{ℕ, ◌+◌, max, if◌then◌else◌, nat_lt, nat_le, Bool, ◌&&◌}
 use Rattle.sap_tree.specs.Limits.{most_tokens, most_brackets}
 use Rattle.sap_tree.specs.Precedence.{precedence, unary_precedence, slice_precedence, precedence_of}
 use Rattle.sap_tree.specs.Syntax.{Expression, Expressions, literal, sized_literal, variable, cell_at, unary_of, binary_of, choice, slice, concat, zero_extend, no_part, and_part, TagExpression, TagExpressions, level_of, tag_at, level_at, join_of, no_tag, and_tag}
 
--- the parentheses of an operand where this precedence is asked for
+-- The parentheses of an operand where this precedence is asked for.
 abbrev pub parentheses : ℕ → Expression → ℕ
 parentheses asked x = if nat_lt (precedence_of x) asked then 2 else 0
 
--- one bracket more is open inside them
+-- One bracket more is open inside them.
 abbrev pub opened : ℕ → Expression → ℕ
 opened asked x = if nat_lt (precedence_of x) asked then 1 else 0
 
@@ -21,13 +21,14 @@ unfoldable mutual
   tokens (variable spot name) = 1
   tokens (cell_at spot name index) = tokens index + 3
   tokens (unary_of spot o x) = 1 + (parentheses unary_precedence x + tokens x)
-  tokens (binary_of spot o x y) = parentheses (precedence o) x + tokens x + 1 + (parentheses (precedence o + 1) y + tokens y)
+  tokens (binary_of spot o x y) = parentheses (precedence o) x + tokens x + 1
+      + (parentheses (precedence o + 1) y + tokens y)
   tokens (choice spot x y z) = parentheses 1 x + tokens x + 1 + tokens y + 1 + tokens z
   tokens (slice spot x high low) = parentheses slice_precedence x + tokens x + 5
   tokens (concat spot parts) = 1 + part_tokens parts
   tokens (zero_extend spot x w) = tokens x + 5
 
-  -- each part, and the `,` or `}` after it
+  -- Each part, and the `,` or `}` after it.
   pub part_tokens : Expressions → ℕ
   part_tokens no_part = 0
   part_tokens (and_part x parts) = tokens x + 1 + part_tokens parts
@@ -40,7 +41,8 @@ unfoldable mutual
   brackets (variable spot name) = 0
   brackets (cell_at spot name index) = 1 + brackets index
   brackets (unary_of spot o x) = opened unary_precedence x + brackets x
-  brackets (binary_of spot o x y) = max (opened (precedence o) x + brackets x) (opened (precedence o + 1) y + brackets y)
+  brackets (binary_of spot o x y) = max (opened (precedence o) x + brackets x)
+      (opened (precedence o + 1) y + brackets y)
   brackets (choice spot x y z) = max (opened 1 x + brackets x) (max (brackets y) (brackets z))
   brackets (slice spot x high low) = max (opened slice_precedence x + brackets x) 1
   brackets (concat spot parts) = 1 + part_brackets parts
@@ -58,7 +60,7 @@ unfoldable mutual
   tag_tokens (level_at place x) = tokens x + 3
   tag_tokens (join_of place parts) = 2 + tag_part_tokens parts
 
-  -- each part, and the `,` or `)` after it
+  -- Each part, and the `,` or `)` after it.
   pub tag_part_tokens : TagExpressions → ℕ
   tag_part_tokens no_tag = 0
   tag_part_tokens (and_tag x parts) = tag_tokens x + 1 + tag_part_tokens parts
@@ -75,7 +77,7 @@ unfoldable mutual
   tag_part_brackets no_tag = 0
   tag_part_brackets (and_tag x parts) = max (tag_brackets x) (tag_part_brackets parts)
 
--- whether an expression that stands in no other is short enough, and a tag expression
+-- Whether an expression that stands in no other is short enough, and a tag expression.
 abbrev pub fits : Expression → Bool
 fits x = nat_le (tokens x) most_tokens && nat_le (brackets x) most_brackets
 

@@ -41,6 +41,6 @@ most_brackets = 64
 abbrev pub most_tokens : ℕ
 most_tokens = 256
 
--- arms of a `case`: a text within the limit on its bytes has fewer
+-- Arms of a `case`: a text within the limit on its bytes has fewer.
 abbrev pub most_arms : ℕ
 most_arms = 1048576

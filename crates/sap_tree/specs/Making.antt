@@ -9,7 +9,7 @@ use Rattle.sap_tree.specs.declared.syntax.Kind.{Kind}
 use Rattle.sap_tree.specs.declared.syntax.Kind.TheVariants.{Enforced}
 use Rattle.sap_tree.specs.declared.syntax.Numeral.{Numeral}
 
--- in a text: a place, and a place in the first line
+-- In a text: a place, and a place in the first line.
 abbrev pub on : (line column : ℕ) → Place
 on line column = record { line = line; column = column }
 
@@ -29,7 +29,7 @@ mention place name = record { place = place; name = name }
 abbrev pub numeral_at : Place → ℕ → Numeral
 numeral_at place n = record { place = place; value = n }
 
--- where places don't matter
+-- Where places don't matter.
 abbrev pub named : List ℕ → Mention
 named name = mention nowhere name
 
@@ -58,7 +58,7 @@ commands (c ∷ cs) = and_command c (commands cs)
 abbrev pub block : List Command → CommandBlock
 block cs = command_block (commands cs) nowhere
 
--- state NAME KIND { .. and its children }
+-- The text `state NAME KIND { .. and its children }`.
 abbrev pub state : (name : List ℕ) → Kind → List Command → StateList → StateTree
 state name kind body children = state_node nowhere (named name) kind (block body) children
 

@@ -8,4 +8,8 @@ use Rattle.sap_tree.specs.declared.version.Version.{Version}
 
 -- The tree of a design with this version, these declarations and these top-level states.
 abbrev pub tree_of : Version → List Decl → List State → DesignTree
-tree_of version declarations states = record { version = version; declarations = declarations; states = states_of states }
+tree_of version declarations states = record {
+  version = version;
+  declarations = declarations;
+  states = states_of states;
+}

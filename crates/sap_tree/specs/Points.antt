@@ -1,4 +1,5 @@
--- The points of a design: each `if`, `otherwise`, `fall`, `then` and `case`, in the order of these words. The `otherwise` of a `then` is none. Each is the command that it is, and the state in whose body it stands.
+-- The points of a design: each `if`, `otherwise`, `fall`, `then` and `case`, in the order of these words. The
+-- `otherwise` of a `then` is none. Each is the command that it is, and the state in whose body it stands.
 use Rattle.std.specs.Prelude.{List, [], ◌∷◌, ◌++◌, map}
 use Rattle.sap_tree.specs.Syntax.{SimpleCommand, assign, write, set_tag, set_cell_tag, go_to, fall_to_child, Command, lone, try, if_else, try_then, case_of, Arms, CommandBlock, ElseBlock, CommandList, StateTree, StateList, DesignTree}
 use Rattle.sap_tree.specs.Touches.{Home, home_of}
@@ -15,7 +16,7 @@ simple_points (set_cell_tag place target index tag) = []
 simple_points (go_to place target) = []
 simple_points (fall_to_child place) = lone (fall_to_child place) ∷ []
 
--- an `otherwise` is the whole command, with its handler
+-- An `otherwise` is the whole command, with its handler.
 abbrev pub own_points : Command → (below : List Command) → List Command
 own_points (lone k) below = simple_points k
 own_points (try k place handler) below = simple_points k ++ try k place handler ∷ below
@@ -52,7 +53,7 @@ pub record Point : Type 0 where
 abbrev pub point : Home → Command → Point
 point h c = record { home = h; command = c }
 
--- those of a body stand before those of the children
+-- Those of a body stand before those of the children.
 abbrev pub body_points : StateTree → List Point
 body_points s = map (point (home_of s)) (block_points (body_of s))
 

@@ -1,4 +1,5 @@
--- How tightly an expression binds. An operand stands in parentheses exactly where it binds looser than its place asks for.
+-- How tightly an expression binds. An operand stands in parentheses exactly where it binds looser than its place asks
+-- for.
 use Rattle.std.specs.Prelude.{ℕ}
 use Rattle.sap_tree.specs.Syntax.{Expression, literal, sized_literal, variable, cell_at, unary_of, binary_of, choice, slice, concat, zero_extend}
 use Rattle.sap_tree.specs.declared.syntax.BinaryOperator.TheVariants as b

@@ -1,4 +1,5 @@
--- The definitions of a design's tree that proofs of other crates name, each from the file in which it stands. Declares nothing.
+-- The definitions of a design's tree that proofs of other crates name, each from the file in which it stands. Declares
+-- nothing.
 unfoldable pub use Rattle.sap_tree.specs.Bare.{bare, bare_command, bare_expression, bare_simple, bare_state, bare_tag}
 pub use Rattle.sap_tree.specs.Bare.{bare_arms, bare_authority, bare_block, bare_declaration, bare_else, bare_expressions, bare_kind, bare_list, bare_start}
 pub use Rattle.sap_tree.specs.Bare.{bare_states, bare_tags, no_spot, nowhere}

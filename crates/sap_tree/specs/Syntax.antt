@@ -1,6 +1,6 @@
--- The tree of a design, without where its parts lie in memory. Each construct is one constructor. A `Spot` is the place of an expression's
--- first token, the parentheses around it included, and that of its own: the number, the name (for an indexed memory its name), the operator,
--- the `?`, the `[` of a slice, the `{` or the `zext`.
+-- The tree of a design, without where its parts lie in memory. Each construct is one constructor. A `Spot` is the place
+-- of an expression's first token, the parentheses around it included, and that of its own: the number, the name (for an
+-- indexed memory its name), the operator, the `?`, the `[` of a slice, the `{` or the `zext`.
 use Rattle.std.specs.Prelude.{ℕ, List}
 use Rattle.sap_tree.specs.declared.name.Mention.{Mention}
 use Rattle.sap_text.specs.declared.place.Place.{Place}

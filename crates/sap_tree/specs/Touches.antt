@@ -16,7 +16,7 @@ abbrev pub is_dynamic_kind : Kind → Bool
 is_dynamic_kind (k.Dynamic place) = true
 is_dynamic_kind (k.Enforced level authority) = false
 
--- whether x is declared here as a dynamic register or memory
+-- Whether x is declared here as a dynamic register or memory.
 abbrev pub declares_dynamic : List ℕ → Decl → Bool
 declares_dynamic x (d.Input place name width) = false
 declares_dynamic x (d.Register place name width kind start) = bytes_eq name.name x && is_dynamic_kind kind
@@ -26,10 +26,11 @@ declares_dynamic x (d.Memory place name width depth kind) = bytes_eq name.name x
 unfoldable pub is_dynamic_store : List Decl → List ℕ → Bool
 is_dynamic_store declarations x = list_any (declares_dynamic x) declarations
 
--- whether x is one of these states and dynamic
+-- Whether x is one of these states and dynamic.
 unfoldable pub is_dynamic_child : StateList → List ℕ → Bool
 is_dynamic_child no_state x = false
-is_dynamic_child (and_state (state_node place name kind body children) states) x = (bytes_eq name.name x && is_dynamic_kind kind) || is_dynamic_child states x
+is_dynamic_child (and_state (state_node place name kind body children) states) x =
+    (bytes_eq name.name x && is_dynamic_kind kind) || is_dynamic_child states x
 
 -- whether a command assigns x, as a register or as a memory
 
@@ -62,7 +63,7 @@ arms_assign arms x = some_in_arms (λ k. simple_assigns k x) arms
 unfoldable pub list_assigns : CommandList → List ℕ → Bool
 list_assigns list x = some_in_list (λ k. simple_assigns k x) list
 
--- whether the body of one of these states or of their descendants assigns x
+-- Whether the body of one of these states or of their descendants assigns x.
 unfoldable pub state_assigns : StateTree → List ℕ → Bool
 state_assigns s x = gathered_from false ◌||◌ (λ s. block_assigns (body_of s) x) s
 
@@ -80,9 +81,11 @@ pub record Home : Type 0 where
 abbrev pub home_of : StateTree → Home
 home_of (state_node place name kind body children) = record { name = name.name; kind = kind; children = children }
 
--- what a `fall` into one of these states touches: the dynamic ones of them, and each dynamic register or memory that they or their descendants assign
+-- What a `fall` into one of these states touches: the dynamic ones of them, and each dynamic register or memory that
+-- they or their descendants assign.
 unfoldable pub fall_touches : List Decl → StateList → List ℕ → Bool
-fall_touches declarations states x = is_dynamic_child states x || (is_dynamic_store declarations x && states_assign states x)
+fall_touches declarations states x = is_dynamic_child states x
+    || (is_dynamic_store declarations x && states_assign states x)
 
 -- A step touches a dynamic entity: its own target, with `goto` the state in which it appears, and with `fall` what the
 -- children touch.
@@ -114,6 +117,6 @@ arms_touch declarations home arms x = some_in_arms (λ k. simple_touches declara
 unfoldable pub list_touches : List Decl → Home → CommandList → List ℕ → Bool
 list_touches declarations home list x = some_in_list (λ k. simple_touches declarations home k x) list
 
--- the root's fall
+-- The root's fall.
 abbrev pub root_touches : DesignTree → List ℕ → Bool
 root_touches design x = fall_touches design.declarations design.states x

@@ -67,10 +67,13 @@ simple_of (s.Fall place) = Syntax.fall_to_child place
 unfoldable mutual
   pub command_of : Cmd → Syntax.Command
   command_of (c.Do k) = Syntax.lone (simple_of k)
-  command_of (c.Try' k place shape row after) = Syntax.try (simple_of k) place (Syntax.command_block (command_row_of row) after)
-  command_of (c.If' place x shape row after other) = Syntax.if_else place (expression_of x) (Syntax.command_block (command_row_of row) after) (held_of other)
+  command_of (c.Try' k place shape row after) =
+      Syntax.try (simple_of k) place (Syntax.command_block (command_row_of row) after)
+  command_of (c.If' place x shape row after other) =
+      Syntax.if_else place (expression_of x) (Syntax.command_block (command_row_of row) after) (held_of other)
   command_of (c.TryThen' k place shape row after other_shape other_row other_after) =
-      Syntax.try_then (simple_of k) place (Syntax.command_block (command_row_of row) after) (Syntax.command_block (command_row_of other_row) other_after)
+      Syntax.try_then (simple_of k) place (Syntax.command_block (command_row_of row) after)
+      (Syntax.command_block (command_row_of other_row) other_after)
   command_of (c.Case' place x shape arms last_shape row after) =
       Syntax.case_of place (expression_of x) (arm_row_of arms (Syntax.command_block (command_row_of row) after))
 
@@ -78,11 +81,12 @@ unfoldable mutual
   held_of None' = Syntax.no_else
   held_of (Some' shape row after) = Syntax.with_else (Syntax.command_block (command_row_of row) after)
 
-  -- arms with the block after `else`
+  -- Arms with the block after `else`.
   pub arm_row_of : {n : _} → Row_of-Arm n → Syntax.CommandBlock → Syntax.Arms
   arm_row_of end_of-Arm last = Syntax.last_arm last
   arm_row_of (more_of-Arm constants shape row after rest) last =
-      Syntax.and_arm (expressions_of constants.items) (Syntax.command_block (command_row_of row) after) (arm_row_of rest last)
+      Syntax.and_arm (expressions_of constants.items) (Syntax.command_block (command_row_of row) after)
+      (arm_row_of rest last)
 
   pub command_row_of : {n : _} → Row_of-Cmd n → Syntax.CommandList
   command_row_of end_of-Cmd = Syntax.no_command
@@ -107,12 +111,12 @@ constants_of arm = expressions_of arm.constants.items
 abbrev pub arm_block_of : Arm → Syntax.CommandBlock
 arm_block_of arm = block_of arm.block
 
--- arms in front of others
+-- Arms in front of others.
 abbrev pub arms_before : List Arm → Syntax.Arms → Syntax.Arms
 arms_before [] others = others
 arms_before (arm ∷ arms) others = Syntax.and_arm (constants_of arm) (arm_block_of arm) (arms_before arms others)
 
--- arms, and the block after `else`
+-- Arms, and the block after `else`.
 abbrev pub arms_of : List Arm → Syntax.CommandBlock → Syntax.Arms
 arms_of arms last = arms_before arms (Syntax.last_arm last)
 
@@ -124,7 +128,8 @@ else_of (Some b) = Syntax.with_else (block_of b)
 -- The tree of a state, with its children.
 unfoldable mutual
   pub state_of : State → Syntax.StateTree
-  state_of (State' place name kind body shape row) = Syntax.state_node place name kind (block_of body) (state_row_of row)
+  state_of (State' place name kind body shape row) =
+      Syntax.state_node place name kind (block_of body) (state_row_of row)
 
   pub state_row_of : {n : _} → Row_of-State n → Syntax.StateList
   state_row_of end_of-State = Syntax.no_state

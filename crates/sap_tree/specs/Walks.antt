@@ -3,7 +3,7 @@
 use Rattle.std.specs.Prelude.{ℕ, Bool, false, ◌||◌, Option, Some, None}
 use Rattle.sap_tree.specs.Syntax.{Expression, SimpleCommand, Command, lone, try, if_else, try_then, case_of, Arms, last_arm, and_arm, CommandBlock, command_block, ElseBlock, no_else, with_else, CommandList, no_command, and_command, StateTree, state_node, StateList, no_state, and_state}
 
--- P holds of each simple command, and Q of each condition and number with the width that it is asked for
+-- P holds of each simple command, and Q of each condition and number with the width that it is asked for.
 module _ (P : SimpleCommand → Type 0) (Q : (asked : Option ℕ) → Expression → Type 0) where
   -- P holds of each step of a command, and Q of the expression of each of its tests (with the least width that is asked
   -- of it).
@@ -38,8 +38,10 @@ module _ {A : Type 0} (none : A) (join : A → A → A) (own : Command → (belo
     pub folded : Command → A
     folded (lone c) = own (lone c) none
     folded (try c place handler) = own (try c place handler) (folded_in_block handler)
-    folded (if_else place e one other) = own (if_else place e one other) (join (folded_in_block one) (folded_in_else other))
-    folded (try_then c place one other) = own (try_then c place one other) (join (folded_in_block one) (folded_in_block other))
+    folded (if_else place e one other) = own (if_else place e one other)
+        (join (folded_in_block one) (folded_in_else other))
+    folded (try_then c place one other) = own (try_then c place one other)
+        (join (folded_in_block one) (folded_in_block other))
     folded (case_of place e arms) = own (case_of place e arms) (folded_in_arms arms)
 
     pub folded_in_block : CommandBlock → A
@@ -87,7 +89,7 @@ module _ {A : Type 0} (none : A) (join : A → A → A) (f : SimpleCommand → A
   abbrev pub gathered_in_list : CommandList → A
   gathered_in_list list = folded_in_list none join with_simple list
 
--- p holds of some simple command
+-- `p` holds of some simple command.
 module _ (p : SimpleCommand → Bool) where
   -- Some step of the command satisfies p.
   abbrev pub some : Command → Bool
@@ -118,7 +120,8 @@ module _ {A : Type 0} (none : A) (join : A → A → A) (own : StateTree → (be
   -- A value made from a state from below: `own` of the state and of what its children give, joined in order.
   abbrev mutual
     pub folded_from : StateTree → A
-    folded_from (state_node place name kind body children) = own (state_node place name kind body children) (folded_from_list children)
+    folded_from (state_node place name kind body children) =
+        own (state_node place name kind body children) (folded_from_list children)
 
     pub folded_from_list : StateList → A
     folded_from_list no_state = none

@@ -37,7 +37,8 @@ unfoldable mutual
   is_expression version (cell_at spot name index) = is_name version name && is_expression version index
   is_expression version (unary_of spot o x) = is_expression version x
   is_expression version (binary_of spot o x y) = is_expression version x && is_expression version y
-  is_expression version (choice spot x y z) = is_expression version x && is_expression version y && is_expression version z
+  is_expression version (choice spot x y z) =
+      is_expression version x && is_expression version y && is_expression version z
   is_expression version (slice spot x high low) = is_expression version x && is_number high && is_number low
   is_expression version (concat spot parts) = has_two_parts parts && are_expressions version parts
   is_expression version (zero_extend spot x w) = is_expression version x && is_number w
@@ -76,9 +77,11 @@ is_outermost_tag version x = is_tag version x && tag_fits x
 -- A step is one of the grammar in this version: its names and its expressions are.
 unfoldable pub is_simple : Version → SimpleCommand → Bool
 is_simple version (assign register x) = is_name version register.name && is_outermost version x
-is_simple version (write memory index x) = is_name version memory.name && is_outermost version index && is_outermost version x
+is_simple version (write memory index x) =
+    is_name version memory.name && is_outermost version index && is_outermost version x
 is_simple version (set_tag place name n) = is_name version name.name && is_outermost_tag version n
-is_simple version (set_cell_tag place memory index n) = is_name version memory.name && is_outermost version index && is_outermost_tag version n
+is_simple version (set_cell_tag place memory index n) =
+    is_name version memory.name && is_outermost version index && is_outermost_tag version n
 is_simple version (go_to place target) = is_name version target.name
 is_simple version (fall_to_child place) = true
 
@@ -110,14 +113,18 @@ abbrev pub has_arm : Arms → Bool
 has_arm (last_arm block) = false
 has_arm (and_arm constants block arms) = true
 
--- `then` and `case` stand in designs of the second version alone
+-- `then` and `case` stand in designs of the second version alone.
 unfoldable mutual
   pub is_command : Version → Command → Bool
   is_command version (lone c) = is_simple version c
   is_command version (try c place handler) = is_simple version c && is_block version handler
-  is_command version (if_else place x one other) = is_outermost version x && is_block version one && is_else version other
-  is_command version (try_then c place one other) = is_second version && is_simple version c && is_block version one && is_block version other
-  is_command version (case_of place x arms) = is_second version && is_outermost version x && has_arm arms && nat_le (arm_count arms) most_arms && are_arms version arms
+  is_command version (if_else place x one other) =
+      is_outermost version x && is_block version one && is_else version other
+  is_command version (try_then c place one other) =
+      is_second version && is_simple version c && is_block version one && is_block version other
+  is_command version (case_of place x arms) =
+      is_second version && is_outermost version x && has_arm arms && nat_le (arm_count arms) most_arms
+      && are_arms version arms
 
   pub is_block : Version → CommandBlock → Bool
   is_block version (command_block list after) = are_commands version list
@@ -128,13 +135,14 @@ unfoldable mutual
 
   pub are_arms : Version → Arms → Bool
   are_arms version (last_arm block) = is_block version block
-  are_arms version (and_arm constants block arms) = has_constant constants && are_constants constants && is_block version block && are_arms version arms
+  are_arms version (and_arm constants block arms) =
+      has_constant constants && are_constants constants && is_block version block && are_arms version arms
 
   pub are_commands : Version → CommandList → Bool
   are_commands version no_command = true
   are_commands version (and_command c list) = is_command version c && are_commands version list
 
--- one more than what stands below
+-- One more than what stands below.
 abbrev pub one_more : {A : Type 0} → A → (below : ℕ) → ℕ
 one_more part below = 1 + below
 
@@ -202,8 +210,10 @@ is_start (Some n) = is_number n.value
 -- A declaration is one of the grammar in this version: its names are, and its numbers are below 2^64.
 abbrev pub is_declaration : Version → Decl → Bool
 is_declaration version (d.Input place name width) = is_name version name.name && is_number width.value
-is_declaration version (d.Register place name width kind start) = is_name version name.name && is_number width.value && is_kind version kind && is_start start
-is_declaration version (d.Memory place name width depth kind) = is_name version name.name && is_number width.value && is_number depth.value && is_kind version kind
+is_declaration version (d.Register place name width kind start) =
+    is_name version name.name && is_number width.value && is_kind version kind && is_start start
+is_declaration version (d.Memory place name width depth kind) =
+    is_name version name.name && is_number width.value && is_number depth.value && is_kind version kind
 
 -- This declares an input.
 abbrev pub is_input : Decl → Bool
@@ -227,7 +237,8 @@ is_memory declaration = false
 unfoldable mutual
   pub is_state : Version → StateTree → Bool
   is_state version (state_node place name kind body children) =
-      is_name version name.name && is_kind version kind && is_block version body && nat_le (block_depth body) most_blocks && are_states version children
+      is_name version name.name && is_kind version kind && is_block version body
+      && nat_le (block_depth body) most_blocks && are_states version children
 
   pub are_states : Version → StateList → Bool
   are_states version no_state = true
@@ -241,7 +252,7 @@ state_count s = folded_from 0 ◌+◌ one_more s
 unfoldable pub states_count : StateList → ℕ
 states_count states = folded_from_list 0 ◌+◌ one_more states
 
--- 1 for a state without children, and one more for each level of children
+-- The depth of a state: 1 without children, and one more for each level of children.
 unfoldable pub state_depth : StateTree → ℕ
 state_depth s = folded_from 0 max one_more s
 
@@ -249,7 +260,7 @@ state_depth s = folded_from 0 max one_more s
 unfoldable pub states_depth : StateList → ℕ
 states_depth states = folded_from_list 0 max one_more states
 
--- the commands of all bodies
+-- The commands of all bodies.
 unfoldable pub state_commands : StateTree → ℕ
 state_commands s = gathered_from 0 ◌+◌ (λ s. block_count (body_of s)) s
 
@@ -264,11 +275,12 @@ abbrev pub has_state : StateList → Bool
 has_state no_state = false
 has_state (and_state s states) = true
 
--- a tree that some text of the grammar has, whose parts are within their limits
+-- A tree that some text of the grammar has, whose parts are within their limits.
 abbrev pub is_tree : DesignTree → Bool
-is_tree design = list_all (is_declaration design.version) design.declarations && has_state design.states && are_states design.version design.states
+is_tree design = list_all (is_declaration design.version) design.declarations && has_state design.states
+    && are_states design.version design.states
 
--- the limits on the whole
+-- The limits on the whole.
 abbrev pub is_within_limits : DesignTree → Bool
 is_within_limits design =
     nat_le (count_by is_input design.declarations) most_inputs

@@ -34,7 +34,8 @@ word_text w.Two = codes "2"
 
 -- These words are keywords in every version; others are from the second version on.
 abbrev pub first_words : List Word
-first_words = w.Input ∷ w.Reg ∷ w.Mem ∷ w.State ∷ w.Dynamic ∷ w.Enforced ∷ w.Under ∷ w.If ∷ w.Else ∷ w.Goto ∷ w.Fall ∷ w.SetTag
+first_words = w.Input ∷ w.Reg ∷ w.Mem ∷ w.State ∷ w.Dynamic ∷ w.Enforced ∷ w.Under ∷ w.If ∷ w.Else
+    ∷ w.Goto ∷ w.Fall ∷ w.SetTag
     ∷ w.Otherwise ∷ w.Tag ∷ w.Level ∷ w.Join ∷ w.Zext ∷ []
 
 -- The words that version 2 has more than version 1.
@@ -46,7 +47,7 @@ abbrev pub is_second : Version → Bool
 is_second v.One = false
 is_second v.Two = true
 
--- the keywords of the design language
+-- The keywords of the design language.
 abbrev pub keywords : Version → List (List ℕ)
 keywords v.One = design_keywords
 keywords v.Two = design_keywords ++ map word_text later_words

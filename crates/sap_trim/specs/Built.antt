@@ -31,7 +31,7 @@ memory_of e m =
       value = standing_operand e m.value;
     }
 
--- helping wires, and then the port wires, each a copy of what it stands for
+-- Helping wires, and then the port wires, each a copy of what it stands for.
 abbrev pub built : Net → List Wire → Stands → Net
 built n ws e =
     record {

@@ -7,7 +7,7 @@ use Rattle.sap_net.specs.IsNetlist.{register_names, memory_names}
 use Rattle.sap_net.specs.declared.parts.Wire.{Wire}
 unfoldable pub use Rattle.sap_share.specs.Names.{helper}
 
--- the first names, in order
+-- The first names, in order.
 abbrev pub numbered : ℕ → List Name
 numbered zero = []
 numbered (suc k) = numbered k ++ helper k ∷ []
@@ -16,18 +16,18 @@ numbered (suc k) = numbered k ++ helper k ∷ []
 abbrev pub port_names : Net → List Name
 port_names n = map (λ p. p.name) n.ports
 
--- the names of ports, inputs among them, registers and memories
+-- The names of ports, inputs among them, registers and memories.
 abbrev pub lasting_names : Net → List Name
 lasting_names n = port_names n ++ (register_names n ++ memory_names n)
 
--- the wires that are ports
+-- The wires that are ports.
 abbrev pub shown_wires : Net → List Wire
 shown_wires n = filter (λ w. is_among w.name (port_names n)) n.wires
 
--- the wires that are none
+-- The wires that are none.
 abbrev pub helping_wires : Net → List Wire
 helping_wires n = filter (λ w. not (is_among w.name (port_names n))) n.wires
 
--- no port, register or memory has the name of a helping wire
+-- No port, register or memory has the name of a helping wire.
 abbrev pub NoneNumbered : Net → Type 0
 NoneNumbered n = (k : ℕ) → is_among (helper k) (lasting_names n) ≡ false

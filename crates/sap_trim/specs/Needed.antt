@@ -8,7 +8,7 @@ use Rattle.sap_net.specs.declared.parts.Wire.{Wire}
 use Rattle.sap_trim.specs.Names.{port_names}
 use Rattle.sap_trim.specs.Reads.{wire_reads, edge_reads}
 
--- whether a wire is a port, or is read by those behind it that are needed, or at the edge
+-- Whether a wire is a port, or is read by those behind it that are needed, or at the edge.
 abbrev pub is_needed : (ports edge : List Name) → Wire → (behind : List Wire) → Bool
 is_needed ports edge w behind = is_among w.name ports || is_among w.name (wire_reads behind ++ edge)
 
@@ -33,12 +33,12 @@ abbrev pub is_at : Option ℕ → (place : ℕ) → Bool
 is_at None k = false
 is_at (Some j) k = j == k
 
--- one of the names xs has the place among all names
+-- One of the names xs has the place among all names.
 abbrev pub has_place : (all xs : List Name) → (place : ℕ) → Bool
 has_place all [] k = false
 has_place all (x ∷ xs) k = is_at (place_in all x) k || has_place all xs k
 
--- the places of the names are marked too
+-- The places of the names are marked too.
 pub record Marks (all xs : List Name) (before after : List Bool) : Type 0 where
   pub long : length after ≡ length before
   pub each : (k : ℕ) → k < length before → is_marked after k ≡ (has_place all xs k || is_marked before k)
@@ -49,7 +49,7 @@ marked bs [] = []
 marked [] (w ∷ ws) = []
 marked (b ∷ bs) (w ∷ ws) = if b then w ∷ marked bs ws else marked bs ws
 
--- a mark for each wire, which those have that are needed
+-- A mark for each wire, which those have that are needed.
 pub record MarksNeeded (n : Net) (marks : List Bool) : Type 0 where
   pub long : length marks ≡ length n.wires
   pub needed : marked marks n.wires ≡ needed_wires n

@@ -45,11 +45,11 @@ abbrev pub memory_reads : List Memory → List Name
 memory_reads [] = []
 memory_reads (m ∷ ms) = operand_reads m.enable ++ (operand_reads m.index ++ (operand_reads m.value ++ memory_reads ms))
 
--- what registers and memories take at the edge
+-- What registers and memories take at the edge.
 abbrev pub edge_reads : Net → List Name
 edge_reads n = register_reads n.registers ++ memory_reads n.memories
 
--- a wire reads the name, or a register or a memory at the edge
+-- A wire reads the name, or a register or a memory at the edge.
 abbrev pub IsRead : Net → Name → Type 0
 IsRead n x = is_among x (wire_reads n.wires ++ edge_reads n) ≡ true
 

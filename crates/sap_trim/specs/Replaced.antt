@@ -7,7 +7,7 @@ use Rattle.sap_net.specs.declared.parts.Right.{Right}
 use Rattle.sap_net.specs.declared.parts.Right.TheVariants.{Copy, One, Two, Choose, Concat, Slice, Cell}
 use Rattle.sap_fold.specs.Slices.{sliced}
 
--- what each name stands for
+-- What each name stands for.
 abbrev pub Stands : Type 0
 Stands = Name → Option Operand
 

@@ -16,7 +16,7 @@ abbrev pub number_of : Stay → ℕ
 number_of (Always n) = n
 number_of (While r n) = n
 
--- the register has the stay's number, if it asks for one
+-- The register has the stay's number, if it asks for one.
 abbrev pub Stays : Valuation → Stay → Type 0
 Stays v (Always n) = Unit {0}
 Stays v (While r n) = v.value r ≡ n
@@ -34,14 +34,14 @@ abbrev pub operand_stay : (Name → Option Stay) → Operand → Option Stay
 operand_stay e (Named x) = e x
 operand_stay e (Constant w n) = Some (Always n)
 
--- two are at one number, and ask for at most one register
+-- Two are at one number, and ask for at most one register.
 abbrev pub agree : (a b : Stay) → Bool
 agree (Always m) (Always n) = m == n
 agree (Always m) (While y n) = m == n
 agree (While x m) (Always n) = m == n
 agree (While x m) (While y n) = m == n && bytes_eq x y
 
--- the one that asks for a register
+-- The one that asks for a register.
 abbrev pub stronger : (a b : Stay) → Stay
 stronger (Always m) b = b
 stronger (While x m) b = While x m
@@ -69,4 +69,5 @@ is_at (While r m) x n = m == n && bytes_eq r x
 
 -- What a register takes at the edge is its start, wherever the wires' equations hold and it has its start.
 abbrev pub KeepsStart : List Wire → Register → Type 0
-KeepsStart ws r = (widths : Name → ℕ) (v : Valuation) → Holds widths v ws → v.value r.name ≡ r.start → operand_value v r.next ≡ r.start
+KeepsStart ws r = (widths : Name → ℕ) (v : Valuation) → Holds widths v ws → v.value r.name ≡ r.start
+    → operand_value v r.next ≡ r.start

@@ -17,7 +17,7 @@ use Rattle.sap_trim.specs.Replaced.{Stands, replaced}
 use Rattle.sap_fold.specs.Wires.{Provides}
 use Rattle.sap_trim.specs.Stays.{KeepsStart}
 
--- the helping wires so far, the number of the next one, and what each name of the netlist stands for
+-- The helping wires so far, the number of the next one, and what each name of the netlist stands for.
 pub record State : Type 0 where
   pub wires : List Wire
   pub next : ℕ
@@ -32,11 +32,11 @@ abbrev pub SomeRegister : (Register → Type 0) → List Register → Type 0
 SomeRegister P [] = ⊥
 SomeRegister P (r ∷ rs) = P r ⊎ SomeRegister P rs
 
--- x is the name of a register that keeps its start, and stands for that
+-- `x` is the name of a register that keeps its start, and stands for that.
 abbrev pub StartsAt : List Wire → Name → Option Operand → Register → Type 0
 StartsAt ws x o r = KeepsStart ws r × (r.name ≡ x) × (o ≡ Some (Constant r.width r.start))
 
--- x stands for what it did, or for the start of a register that keeps it
+-- `x` stands for what it did, or for the start of a register that keeps it.
 abbrev pub Starts : List Wire → List Register → Name → (before after : Option Operand) → Type 0
 Starts ws rs x before after = (after ≡ before) ⊎ SomeRegister (StartsAt ws x after) rs
 
@@ -44,11 +44,11 @@ Starts ws rs x before after = (after ≡ before) ⊎ SomeRegister (StartsAt ws x
 abbrev pub itself : Name → Name × Operand
 itself x = (x, Named x)
 
--- inputs and registers, each standing for itself
+-- Inputs and registers, each standing for itself.
 abbrev pub themselves : Net → List (Name × Operand)
 themselves n = map itself (input_names n ++ register_names n)
 
--- inputs and registers stand for themselves, and no other name for anything
+-- Inputs and registers stand for themselves, and no other name for anything.
 abbrev pub StandForThemselves : Net → State → Type 0
 StandForThemselves n s = (x : Name) → s.stands x ≡ find (themselves n) x
 
@@ -58,23 +58,23 @@ pub record Begins (n : Net) (s : State) : Type 0 where
   pub next : s.next ≡ 0
   pub stands : (x : Name) → Starts n.wires n.registers x (find (themselves n) x) (s.stands x)
 
--- the name x stands for what has the value of r
+-- The name x stands for what has the value of r.
 pub record Steps (taken : Name → Bool) (s : State) (x : Name) (u : ℕ) (r : Right) (t : State) : Type 0 where
   pub operand : Operand
   pub provides : Provides taken s.wires s.next u r operand t.wires t.next
   pub binds : Puts s.stands x operand t.stands
 
--- a wire with its operands replaced, and its right side folded
+-- A wire with its operands replaced, and its right side folded.
 abbrev pub Settles : (taken : Name → Bool) → State → Wire → State → Type 0
 Settles taken s w t = Steps taken s w.name w.width (settled w.width (replaced s.stands w.right)) t
 
--- x stands for an operand that has the value of its right side with the operands replaced
+-- `x` stands for an operand that has the value of its right side with the operands replaced.
 pub record Folds (taken : Name → Bool) (s : State) (w : Wire) (t : State) : Type 0 where
   pub operand : Operand
   pub gives : Gives taken s.wires s.next w.width (replaced s.stands w.right) operand t.wires t.next
   pub binds : Puts s.stands w.name operand t.stands
 
--- a step for each wire, in order
+-- A step for each wire, in order.
 abbrev pub Walked : (State → Wire → State → Type 0) → State → List Wire → State → Type 0
 Walked Step s [] t = s ≡ t
 Walked Step s (w ∷ ws) t = (m : State) × Step s w m × Walked Step m ws t

@@ -15,7 +15,7 @@ number code.V5 = 5
 number code.V6 = 6
 number code.V7 = 7
 
--- a fault of this code stands at this place
+-- A fault of this code stands at this place.
 abbrev pub Stands : File → Code → ℕ → Type 0
 Stands f code.V3 place = V3 f place
 Stands f code.V4 place = V4 f place
@@ -23,13 +23,13 @@ Stands f code.V5 place = V5 f place
 Stands f code.V6 place = V6 f place
 Stands f code.V7 place = V7 f place
 
--- it stands there, none stands at an earlier place, and none of a lower code at this one
+-- It stands there, none stands at an earlier place, and none of a lower code at this one.
 pub record IsFirstFault (f : File) (c : Code) (place : ℕ) : Type 0 where
   pub stands : Stands f c place
   pub earliest : (other : Code) (at : ℕ) → Stands f other at → place ≤ at
   pub lowest : (other : Code) → Stands f other place → number c ≤ number other
 
--- why a file is not taken: its first fault
+-- Why a file is not taken: its first fault.
 abbrev pub IsJudgeFault : File → JudgeFault → Type 0
 IsJudgeFault f (Rule c place) = IsFirstFault f c place
 IsJudgeFault f Memory = ⊥

@@ -10,13 +10,22 @@ use Rattle.sap_vtext.specs.Names.{Shape, wire, register, memory, port_shape, Set
 abbrev pub nothing_known : Known
 nothing_known = record { shape = λ n. None; set = λ s n. false; integer = false }
 
--- after a declaration
+-- After a declaration.
 abbrev pub with_shape : Known → List ℕ → Shape → Known
-with_shape k x shape = record { shape = λ n. option_or (k.shape n) (if bytes_eq x n then Some shape else None); set = k.set; integer = k.integer }
+with_shape k x shape = record {
+  shape = λ n. option_or (k.shape n) (if bytes_eq x n then Some shape
+      else None);
+  set = k.set;
+  integer = k.integer;
+}
 
--- after an `assign`, `initial` or `always`
+-- After an `assign`, `initial` or `always`.
 abbrev pub with_setting : Known → Setting → List ℕ → Known
-with_setting k setting x = record { shape = k.shape; set = λ s n. k.set s n || (same_setting s setting && bytes_eq x n); integer = k.integer }
+with_setting k setting x = record {
+  shape = k.shape;
+  set = λ s n. k.set s n || (same_setting s setting && bytes_eq x n);
+  integer = k.integer;
+}
 
 -- The same, and the integer is declared.
 abbrev pub with_integer : Known → Known

@@ -1,4 +1,5 @@
--- The faults of a module, listed in the order in which they are looked for: each item's faults by what is known where it stands.
+-- The faults of a module, listed in the order in which they are looked for: each item's faults by what is known where
+-- it stands.
 use Rattle.std.specs.Prelude.{ℕ, ◌+◌, ◌^◌, List, [], ◌∷◌, ◌++◌, Bool, true, false, not, ◌&&◌, ◌||◌, ◌==◌, nat_lt, nat_le, Option, Some, None, is_some, map, flat_map}
 use Rattle.std.specs.List.{list_any}
 use Rattle.std.specs.Int.{is_power_of_two}
@@ -34,7 +35,7 @@ integer_faults k _ = []
 
 -- What is used.
 
--- an operand that is a wire not assigned before
+-- An operand that is a wire not assigned before.
 abbrev pub is_unassigned : Manner → Shape → Bool → Bool
 is_unassigned as_value (wire width) assigned = not assigned
 is_unassigned _ _ assigned = false
@@ -42,7 +43,8 @@ is_unassigned _ _ assigned = false
 -- V4 where the name isn't declared or not yet assigned, V7 where its shape doesn't suit the use.
 abbrev pub shape_faults : Manner → Option Shape → Bool → ℕ → List Fault
 shape_faults manner None assigned place = fault_if true V4 place
-shape_faults manner (Some shape) assigned place = fault_if (is_unassigned manner shape assigned) V4 place ++ fault_if (not (suits manner shape)) V7 place
+shape_faults manner (Some shape) assigned place =
+    fault_if (is_unassigned manner shape assigned) V4 place ++ fault_if (not (suits manner shape)) V7 place
 
 -- The faults of a use.
 abbrev pub use_faults : Known → Use → List Fault
@@ -74,7 +76,7 @@ constant_faults c = fault_if (not (constant_fits c)) V5 c.place
 unfoldable pub constants_faults : List Constant → List Fault
 constants_faults cs = flat_map constant_faults cs
 
--- both widths are there, and they differ
+-- Both widths are there, and they differ.
 abbrev pub differ : Option ℕ × Option ℕ → Bool
 differ (Some u, Some w) = not (u == w)
 differ _ = false
@@ -99,7 +101,7 @@ abbrev pub at_target : Bool → Option Target → List Fault
 at_target test None = []
 at_target test (Some t) = fault_if test V5 t.name.place
 
--- two widths differ that have to be equal, or a `{}` is too wide
+-- Two widths differ that have to be equal, or a `{}` is too wide.
 abbrev pub item_differs : Known → Item → Bool
 item_differs k x = list_any differ (pairs k x) || item_too_wide k x
 
@@ -147,7 +149,7 @@ abbrev pub bound_faults : Known → Item → List Fault
 bound_faults k (item.initial_cells place bound x value) = other_bound (k.shape x.name) bound
 bound_faults k _ = []
 
--- a width of an index that isn't that of a depth
+-- A width of an index that isn't that of a depth.
 abbrev pub is_other : ℕ → ℕ → Bool
 is_other depth width = is_power_of_two depth && not (depth == 2 ^ width)
 
@@ -173,7 +175,8 @@ indexes_faults k ps = flat_map (index_faults k) ps
 
 -- An item's faults of declaring and setting.
 abbrev pub declared_faults : Known → Item → List Fault
-declared_faults k x = declarations_faults k (item_declarations x) ++ (target_faults k (target_of x) ++ integer_faults k x)
+declared_faults k x = declarations_faults k (item_declarations x)
+    ++ (target_faults k (target_of x) ++ integer_faults k x)
 
 -- An item's faults of widths.
 abbrev pub sized_faults : Known → Item → List Fault
@@ -201,7 +204,7 @@ unfoldable pub items_faults : Known → List Item → List Fault
 items_faults k [] = []
 items_faults k (x ∷ xs) = item_faults k x ++ items_faults (after_item k x) xs
 
--- a declaration's setting that isn't there
+-- A declaration's setting that isn't there.
 abbrev pub lacks : Known → Declaration → Setting → Bool
 lacks k d s = needs d.shape s && not (k.set s d.name.name)
 
@@ -233,4 +236,5 @@ known_at_end f = after_items (after_ports nothing_known f.ports) f.items
 unfoldable pub file_faults : File → List Fault
 file_faults f =
     ports_faults nothing_known f.ports
-    ++ (items_faults (after_ports nothing_known f.ports) f.items ++ (ports_unset (known_at_end f) f.ports ++ items_unset (known_at_end f) f.items))
+    ++ (items_faults (after_ports nothing_known f.ports) f.items
+    ++ (ports_unset (known_at_end f) f.ports ++ items_unset (known_at_end f) f.items))

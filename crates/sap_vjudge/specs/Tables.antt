@@ -14,4 +14,8 @@ entry_of t n = lookup (λ (k : Vec ℕ Global). bytes_eq n k.items) t.entries.en
 
 -- What a table knows.
 unfoldable pub known_of : Table → Known
-known_of t = record { shape = λ n. entry_shape (entry_of t n); set = λ s n. entry_set (entry_of t n) s; integer = t.integer }
+known_of t = record {
+  shape = λ n. entry_shape (entry_of t n);
+  set = λ s n. entry_set (entry_of t n) s;
+  integer = t.integer;
+}

@@ -17,17 +17,18 @@ use Rattle.sap_vlex.specs.declared.token.Sign.{Sign}
 use Rattle.sap_vlex.specs.declared.token.Word.TheVariants as w
 use Rattle.sap_vlex.specs.declared.token.Word.{Word}
 
--- the same in the words of the module grammar
+-- The same in the words of the module grammar.
 abbrev pub front_of : Lexeme → l.Front
 front_of (Blank len) = l.blank len
 front_of (Token kind len) = l.token (kind_of_token kind) len
 front_of Bad = l.bad
 
--- of some keywords, the one that is spelled so
+-- Of some keywords, the one that is spelled so.
 abbrev pub word_among : List Word → List ℕ → Option Word
 word_among list text = find (λ word. bytes_eq text (word_text (word_of word))) list
 
--- the keywords by where they stand: around the items and in declarations, at the front of the other items, and within an item
+-- The keywords by where they stand: around the items and in declarations, at the front of the other items, and within
+-- an item.
 abbrev pub declaration_words : List Word
 declaration_words = w.Module ∷ w.Endmodule ∷ w.Input ∷ w.Output ∷ w.Reg ∷ w.Wire ∷ []
 
@@ -47,7 +48,7 @@ inner_word text = word_among inner_words text
 abbrev pub item_word : List ℕ → Option Word
 item_word text = word_among (item_words ++ inner_words) text
 
--- the keyword that is spelled so
+-- The keyword that is spelled so.
 abbrev pub word_in : List ℕ → Option Word
 word_in text = word_among (declaration_words ++ item_words ++ inner_words) text
 
@@ -71,38 +72,42 @@ constant_lexeme (Some width) (Some n) len = Token (k.Constant width n) len
 constant_lexeme (Some width) None len = Bad
 constant_lexeme None n len = Bad
 
--- the first `width` bytes are digits; whether they are the width of a constant
+-- The first `width` bytes are digits; whether they are the width of a constant.
 abbrev pub is_constant : (width : ℕ) → List ℕ → Bool
 is_constant width bytes =
-    not (slice_index bytes 0 == byte "0") && (slice_index bytes width == byte "'" && (slice_index bytes (width + 1) == byte "d" && is_ascii_digit (slice_index bytes (width + 2))))
+    not (slice_index bytes 0 == byte "0") && (slice_index bytes width == byte "'"
+    && (slice_index bytes (width + 1) == byte "d" && is_ascii_digit (slice_index bytes (width + 2))))
 
 -- The constant with which the bytes begin.
 unfoldable pub constant_at : (width : ℕ) → List ℕ → Lexeme
 constant_at width bytes =
     let digits = run c.Decimal (drop (width + 2) bytes) in
-    constant_lexeme (number_of 10 (take width bytes)) (number_of 10 (take digits (drop (width + 2) bytes))) (width + 2 + digits)
+    constant_lexeme (number_of 10 (take width bytes))
+    (number_of 10 (take digits (drop (width + 2) bytes))) (width + 2 + digits)
 
 -- The number with which the bytes begin.
 unfoldable pub number_at : List ℕ → Lexeme
 number_at bytes =
     let digits = run c.Decimal bytes in
-    if is_constant digits bytes then constant_at digits bytes else number_lexeme (number_of 10 (take digits bytes)) digits
+    if is_constant digits bytes then constant_at digits bytes
+    else number_lexeme (number_of 10 (take digits bytes)) digits
 
--- of some signs, the one that is spelled so
+-- Of some signs, the one that is spelled so.
 abbrev pub sign_among : List Sign → List ℕ → Option Sign
 sign_among list text = find (λ sign. bytes_eq text (sign_text (sign_of sign))) list
 
--- the signs of two bytes, and those of one
+-- The signs of two bytes, and those of one.
 abbrev pub pair_signs : List Sign
 pair_signs = s.Equal ∷ s.NotEqual ∷ s.LessOrEqual ∷ s.ShiftLeft ∷ s.ShiftRight ∷ []
 
 -- The signs of one byte.
 abbrev pub single_signs : List Sign
 single_signs =
-    s.OpenParen ∷ s.CloseParen ∷ s.OpenBrace ∷ s.CloseBrace ∷ s.OpenBracket ∷ s.CloseBracket ∷ s.Comma ∷ s.Semicolon ∷ s.Colon ∷ s.Question ∷ s.At ∷ s.Is ∷ s.Less ∷ s.Plus
+    s.OpenParen ∷ s.CloseParen ∷ s.OpenBrace ∷ s.CloseBrace ∷ s.OpenBracket ∷ s.CloseBracket ∷ s.Comma
+    ∷ s.Semicolon ∷ s.Colon ∷ s.Question ∷ s.At ∷ s.Is ∷ s.Less ∷ s.Plus
     ∷ s.Minus ∷ s.Star ∷ s.Ampersand ∷ s.Bar ∷ s.Caret ∷ s.Tilde ∷ []
 
--- the sign that two bytes spell, and the one that a single byte does
+-- The sign that two bytes spell, and the one that a single byte does.
 unfoldable pub pair_sign : ℕ → ℕ → Option Sign
 pair_sign first second = sign_among pair_signs (first ∷ second ∷ [])
 

@@ -14,18 +14,18 @@ use Rattle.sap_vparse.specs.declared.items.Operand.{Operand}
 use Rattle.sap_vparse.specs.declared.right.Behind.{Behind}
 use Rattle.sap_vparse.specs.declared.right.Behind.TheVariants as b
 
--- `reg` or `wire`
+-- `reg` or `wire`.
 pub data IsOutput : List Token → Direction → List Token → Type 0 where
   register : {ts r : List Token} → IsWord ts t.reg_word r → IsOutput ts d.OutputRegister r
   wire : {ts r : List Token} → IsWord ts t.wire_word r → IsOutput ts d.OutputWire r
 
--- the ports, each behind a comma, and `)`
+-- The ports, each behind a comma, and `)`.
 pub record PortsEnd (ts : List Token) (ps : List item.Port) (r : List Token) : Type 0 where
   pub last : List Token
   pub ports : ArePorts ts ps last
   pub close : IsSign last t.close_paren r
 
--- the operands that were added, each behind a comma, and `}`
+-- The operands that were added, each behind a comma, and `}`.
 pub record PartsEnd (ts : List Token) (before after : List Operand) (r : List Token) : Type 0 where
   pub last : List Token
   pub added : List item.Operand
@@ -33,18 +33,20 @@ pub record PartsEnd (ts : List Token) (before after : List Operand) (r : List To
   pub parts : AreParts ts added last
   pub close : IsSign last t.close_brace r
 
--- a right side, and `;`
+-- A right side, and `;`.
 pub record RightEnds (ts : List Token) (x : item.Right) (r : List Token) : Type 0 where
   pub last : List Token
   pub right : IsRight ts x last
   pub close : IsSign last t.semicolon r
 
--- what stands behind the first operand of a right side, up to the `;`
+-- What stands behind the first operand of a right side, up to the `;`.
 pub data IsBehind : List Token → Behind → List Token → Type 0 where
   nothing : {ts r : List Token} → IsSign ts t.semicolon r → IsBehind ts b.Nothing r
-  two : {ts m n r : List Token} {y : Operand} (op : Op2) → IsSign ts (binary_sign op) m → IsOperand m (operand_of y) n → IsSign n t.semicolon r
+  two : {ts m n r : List Token} {y : Operand} (op : Op2) → IsSign ts (binary_sign op) m
+      → IsOperand m (operand_of y) n → IsSign n t.semicolon r
       → IsBehind ts (b.Two op y) r
-  choose : {ts k l m n r : List Token} {y z : Operand} → IsSign ts t.question k → IsOperand k (operand_of y) l → IsSign l t.colon m → IsOperand m (operand_of z) n
+  choose : {ts k l m n r : List Token} {y z : Operand} → IsSign ts t.question k
+      → IsOperand k (operand_of y) l → IsSign l t.colon m → IsOperand m (operand_of z) n
       → IsSign n t.semicolon r → IsBehind ts (b.Choose y z) r
 
 -- The right side of a first operand and what follows it.
@@ -53,14 +55,16 @@ right_with x b.Nothing = item.copy x
 right_with x (b.Two op y) = item.two op x (operand_of y)
 right_with x (b.Choose y z) = item.choose x (operand_of y) (operand_of z)
 
--- behind this name and `[`, the rest of a right side and `;`
+-- Behind this name and `[`, the rest of a right side and `;`.
 abbrev pub Indexes : Mention → List Token → item.Right → List Token → Type 0
-Indexes x old right new = (ts m : List Token) → IsName ts (mention_of x) m → IsSign m t.open_bracket old → RightEnds ts right new
+Indexes x old right new = (ts m : List Token) → IsName ts (mention_of x) m → IsSign m t.open_bracket old
+    → RightEnds ts right new
 
--- behind the name of a register, `;`, or the number of the last cell of a memory and `;`
+-- Behind the name of a register, `;`, or the number of the last cell of a memory and `;`.
 pub data RegisterEnds : List Token → Option Number → List Token → Type 0 where
   no_cells : {ts r : List Token} → IsSign ts t.semicolon r → RegisterEnds ts None r
-  cells : {ts a b c d e r : List Token} {last : Number} → IsSign ts t.open_bracket a → IsDigit a 0 b → IsSign b t.colon c → IsNumber c (number_of last) d
+  cells : {ts a b c d e r : List Token} {last : Number} → IsSign ts t.open_bracket a → IsDigit a 0 b
+      → IsSign b t.colon c → IsNumber c (number_of last) d
       → IsSign d t.close_bracket e → IsSign e t.semicolon r → RegisterEnds ts (Some last) r
 
 -- The declaration of a register, or of a memory where a last index follows.
@@ -78,7 +82,7 @@ AfterInitial old x new = (ts : List Token) → IsWord ts t.initial_word old → 
 abbrev pub AfterClock : List Token → item.Item → List Token → Type 0
 AfterClock old x new = (ts : List Token) → IsClocked ts old → IsItem ts x new
 
--- items, and `endmodule`
+-- Items, and `endmodule`.
 pub record ItemsEnd (ts : List Token) (xs : List item.Item) (r : List Token) : Type 0 where
   pub last : List Token
   pub items : AreItems ts xs last

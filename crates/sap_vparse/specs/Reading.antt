@@ -10,7 +10,7 @@ use Rattle.sap_vparse.specs.declared.cursor.Fault.{Fault}
 use Rattle.sap_walk.specs.Walk as walk
 use Rattle.sap_walk.specs.Walk.{◌>>=◌}
 
--- what is left behind, or from the token on that cannot follow
+-- What is left behind, or from the token on that cannot follow.
 abbrev pub Outcome : Type 0
 Outcome = Result (List t.Token) (List t.Token)
 
@@ -20,7 +20,7 @@ plain (Ok p) = Ok p.left
 plain (Err (walk.at_token p)) = Err p.left
 plain (Err (walk.at_limit limit p)) = Err p.left
 
--- the walk by the table of the module grammar
+-- The walk by the table of the module grammar.
 unfoldable pub reads : Symbol → List t.Token → Outcome
 reads s ts = plain (walk.read grammar s (record { past = tt; left = ts }))
 
@@ -29,22 +29,22 @@ abbrev pub steps : List Symbol → List t.Token → Outcome
 steps [] ts = Ok ts
 steps (s ∷ σ) ts = reads s ts >>= steps σ
 
--- a reader of s that faults there does as the walk does, and stays there
+-- A reader of s that faults there does as the walk does, and stays there.
 abbrev pub Stops : Symbol → List t.Token → Fault → List t.Token → Type 0
 Stops s old fault new = fault ≢ f.Memory → reads s old ≡ Err new
 
--- a reader of s that answers this between these tokens does as the walk does
+-- A reader of s that answers this between these tokens does as the walk does.
 abbrev pub Goes : {A : Type 0} → Symbol → List t.Token → Result A Fault → List t.Token → Type 0
 Goes s old (Ok x) new = reads s old ≡ Ok new
 Goes s old (Err e) new = Stops s old e new
 
--- the first token is passed, and this is its place
+-- The first token is passed, and this is its place.
 pub record Passes (old : List t.Token) (place : ℕ) (new : List t.Token) : Type 0 where
   pub token : t.Token
   pub parts : old ≡ token ∷ new
   pub there : place ≡ token.place
 
--- what kind of token stands at the front
+-- What kind of token stands at the front.
 pub data Head : Type 0 where
   of_word : t.Word → Head
   of_sign : t.Sign → Head
@@ -72,7 +72,7 @@ ahead_of a.Number = of_number
 ahead_of a.Constant = of_constant
 ahead_of a.Nothing = of_nothing
 
--- the place of the first token, where there is one
+-- The place of the first token, where there is one.
 abbrev pub here : List t.Token → ℕ
 here [] = 0
 here (x ∷ ts) = x.place

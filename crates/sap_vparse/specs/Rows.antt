@@ -23,20 +23,20 @@ symbol_of (k.Digit digit) = s.digit digit
 abbrev pub symbols_of : List Fixed → List Symbol
 symbols_of xs = map symbol_of xs
 
--- the walk over symbols in a row
+-- The walk over symbols in a row.
 unfoldable pub reads_row : List Symbol → List t.Token → Outcome
 reads_row σ ts = steps σ ts
 
--- a reader of a row that faults there does as the walk does, and stays there
+-- A reader of a row that faults there does as the walk does, and stays there.
 abbrev pub StopsOn : List Symbol → List t.Token → Fault → List t.Token → Type 0
 StopsOn σ old fault new = fault ≢ f.Memory → reads_row σ old ≡ Err new
 
--- a reader of a row that answers this between these tokens does as the walk does
+-- A reader of a row that answers this between these tokens does as the walk does.
 abbrev pub GoesOn : {A : Type 0} → List Symbol → List t.Token → Result A Fault → List t.Token → Type 0
 GoesOn σ old (Ok x) new = reads_row σ old ≡ Ok new
 GoesOn σ old (Err e) new = StopsOn σ old e new
 
--- this token stands at the front, or these do
+-- This token stands at the front, or these do.
 abbrev pub IsFixed : List t.Token → Fixed → List t.Token → Type 0
 IsFixed ts (k.Word word) r = IsWord ts (word_of word) r
 IsFixed ts (k.Sign sign) r = IsSign ts (sign_of sign) r
@@ -46,9 +46,10 @@ infixr 10 ◌then◌
 -- The tokens begin with these fixed tokens.
 pub data AreFixed : List t.Token → List Fixed → List t.Token → Type 0 where
   done : {r : List t.Token} → AreFixed r [] r
-  ◌then◌ : {ts m r : List t.Token} {x : Fixed} {xs : List Fixed} → IsFixed ts x m → AreFixed m xs r → AreFixed ts (x ∷ xs) r
+  ◌then◌ : {ts m r : List t.Token} {x : Fixed} {xs : List Fixed} → IsFixed ts x m → AreFixed m xs r
+      → AreFixed ts (x ∷ xs) r
 
--- this stands at the front, and then these tokens
+-- This stands at the front, and then these tokens.
 abbrev pub NumberThen : List t.Token → item.Number → List Fixed → List t.Token → Type 0
 NumberThen ts n xs r = (m : List t.Token) × IsNumber ts n m × AreFixed m xs r
 
@@ -64,7 +65,7 @@ NameThen ts x xs r = (m : List t.Token) × IsName ts x m × AreFixed m xs r
 abbrev pub OperandThen : List t.Token → item.Operand → List Fixed → List t.Token → Type 0
 OperandThen ts x xs r = (m : List t.Token) × IsOperand ts x m × AreFixed m xs r
 
--- parts of a production, a symbol or several in a row, one after another
+-- Parts of a production, a symbol or several in a row, one after another.
 pub data Part : Type 0 where
   single : Symbol → Part
   several : List Symbol → Part

@@ -6,8 +6,9 @@ use Rattle.sap_vtext.specs.Tokens as t
 use Rattle.sap_walk.specs.Rows.{push}
 use Rattle.sap_walk.specs.Walk.{Next, begins, cannot_stand, Table}
 
--- What may be to come. `digit` is a number that is written with one digit. `ports` and `parts` go up to the sign that closes them; `right`,
--- `item` and all whose names begin with `after` go up to the `;`; `items` go up to `endmodule`, behind which nothing stands.
+-- What may be to come. `digit` is a number that is written with one digit. `ports` and `parts` go up to the sign that
+-- closes them; `right`, `item` and all whose names begin with `after` go up to the `;`; `items` go up to `endmodule`,
+-- behind which nothing stands.
 pub data Symbol : Type 0 where
   sign : t.Sign → Symbol
   word : t.Word → Symbol
@@ -20,7 +21,7 @@ pub data Symbol : Type 0 where
 abbrev pub Row : Type 0
 Row = Next Symbol (Unit {0})
 
--- the token is the first of it, and these come behind it
+-- The token is the first of it, and these come behind it.
 abbrev pub first : List Symbol → Row
 first σ = begins tt σ
 
@@ -99,7 +100,7 @@ parts_next (t.sign t.comma) = first (operand ∷ parts ∷ [])
 parts_next (t.sign t.close_brace) = first []
 parts_next _ = cannot_stand
 
--- behind a binary operator
+-- Behind a binary operator.
 abbrev pub operation : Row
 operation = first (operand ∷ sign t.semicolon ∷ [])
 
@@ -148,7 +149,8 @@ right_next _ = cannot_stand
 -- The end of a register's declaration, or the depth of a memory.
 abbrev pub after_register_next : t.Kind → Row
 after_register_next (t.sign t.semicolon) = first []
-after_register_next (t.sign t.open_bracket) = first (digit 0 ∷ sign t.colon ∷ number ∷ sign t.close_bracket ∷ sign t.semicolon ∷ [])
+after_register_next (t.sign t.open_bracket) =
+    first (digit 0 ∷ sign t.colon ∷ number ∷ sign t.close_bracket ∷ sign t.semicolon ∷ [])
 after_register_next _ = cannot_stand
 
 -- The head of the loop over a memory's cells.
@@ -162,7 +164,8 @@ loop_next i =
 -- The loop that starts a memory's cells.
 abbrev pub cells_next : t.Kind → Row
 cells_next i =
-    push (loop_next i) (name ∷ sign t.open_bracket ∷ word t.i_word ∷ sign t.close_bracket ∷ sign t.is ∷ constant ∷ sign t.semicolon ∷ [])
+    push (loop_next i) (name ∷ sign t.open_bracket ∷ word t.i_word ∷ sign t.close_bracket ∷ sign t.is
+    ∷ constant ∷ sign t.semicolon ∷ [])
 
 -- What follows `initial`.
 abbrev pub after_initial_next : t.Kind → Row
@@ -171,7 +174,8 @@ after_initial_next i = cells_next i
 
 -- `always @(posedge clk)` is asked for.
 abbrev pub clocked_next : t.Kind → Row
-clocked_next i = push (word_next t.always_word i) (sign t.at ∷ sign t.open_paren ∷ word t.posedge_word ∷ word t.clk_word ∷ sign t.close_paren ∷ [])
+clocked_next i = push (word_next t.always_word i) (sign t.at ∷ sign t.open_paren ∷ word t.posedge_word
+    ∷ word t.clk_word ∷ sign t.close_paren ∷ [])
 
 -- The clocked write of a memory.
 abbrev pub write_next : t.Kind → Row
@@ -202,7 +206,8 @@ items_next i = push (item_next i) (items ∷ [])
 -- A module is asked for.
 abbrev pub file_next : t.Kind → Row
 file_next i =
-    push (word_next t.module_word i) (name ∷ sign t.open_paren ∷ word t.input_word ∷ word t.clk_word ∷ ports ∷ sign t.semicolon ∷ items ∷ [])
+    push (word_next t.module_word i) (name ∷ sign t.open_paren ∷ word t.input_word ∷ word t.clk_word
+    ∷ ports ∷ sign t.semicolon ∷ items ∷ [])
 
 -- The row of a symbol and the next token.
 abbrev pub next : Symbol → t.Kind → Row

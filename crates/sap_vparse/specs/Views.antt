@@ -68,9 +68,11 @@ item_of (i.Memory range x last) = item.memory (number_of range) (mention_of x) (
 item_of (i.Integer place) = item.integer place
 item_of (i.Assign x right) = item.assign (mention_of x) (right_of right)
 item_of (i.Initial x value) = item.initial (mention_of x) (constant_of value)
-item_of (i.InitialCells place bound x value) = item.initial_cells place (number_of bound) (mention_of x) (constant_of value)
+item_of (i.InitialCells place bound x value) =
+    item.initial_cells place (number_of bound) (mention_of x) (constant_of value)
 item_of (i.Always x next) = item.always (mention_of x) (operand_of next)
-item_of (i.AlwaysCell condition x index value) = item.always_cell (operand_of condition) (mention_of x) (operand_of index) (operand_of value)
+item_of (i.AlwaysCell condition x index value) =
+    item.always_cell (operand_of condition) (mention_of x) (operand_of index) (operand_of value)
 
 -- The items that stored ones stand for.
 abbrev pub items_of : List Item → List item.Item

@@ -1,5 +1,6 @@
--- The file that is printed for a netlist: the ports, the other declarations in the order of the netlist's names, `integer i` where there are memories,
--- the assigns, the first contents, and what is taken at each edge. All places in it are 0.
+-- The file that is printed for a netlist: the ports, the other declarations in the order of the netlist's names,
+-- `integer i` where there are memories, the assigns, the first contents, and what is taken at each edge. All places in
+-- it are 0.
 use Rattle.std.specs.Prelude.{ℕ, ◌-◌, List, [], ◌∷◌, ◌++◌, Option, Some, None, map, flat_map, drop, length}
 use Rattle.sap_maps.specs.Maps.{Name}
 use Rattle.sap_maps.specs.Scope.{find}
@@ -19,7 +20,7 @@ use Rattle.sap_vtext.specs.Widths.{shape_width}
 use Rattle.sap_vtext.specs.Items as item
 use Rattle.sap_vprint.specs.Text.{text_of, direction_pieces}
 
--- names, numbers and constants at place 0
+-- Names, numbers and constants at place 0.
 abbrev pub mention : Name → item.Mention
 mention x = record { place = 0; name = x }
 
@@ -46,7 +47,7 @@ right_of (Concat xs) = item.concat (map operand_of xs)
 right_of (Slice x hi lo) = item.slice (mention x) hi lo
 right_of (Cell m index) = item.cell (mention m) (operand_of index)
 
--- names with their shapes
+-- Names with their shapes.
 abbrev pub Entries : Type 0
 Entries = List (Name × Shape)
 
@@ -66,7 +67,7 @@ wire_entries n = map (λ x. (x.name, wire x.width)) n.wires
 abbrev pub memory_entries : Net → Entries
 memory_entries n = map (λ x. (x.name, memory x.width x.depth)) n.memories
 
--- all that a netlist has
+-- All that a netlist has.
 abbrev pub entities : Net → Entries
 entities n = input_entries n ++ (register_entries n ++ (wire_entries n ++ memory_entries n))
 
@@ -135,7 +136,8 @@ items_of n =
     declarations_of n (drop (length n.ports) n.names)
     ++ (integer_of n.memories
     ++ (map assign_of n.wires
-    ++ (map initial_of n.registers ++ (map initial_cells_of n.memories ++ (map always_of n.registers ++ map always_cell_of n.memories)))))
+    ++ (map initial_of n.registers ++ (map initial_cells_of n.memories
+    ++ (map always_of n.registers ++ map always_cell_of n.memories)))))
 
 -- The module of a netlist.
 abbrev pub file_of : Net → item.File

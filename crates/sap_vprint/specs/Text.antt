@@ -9,7 +9,8 @@ use Rattle.sap_vtext.specs.Lexing.{word_text, sign_text}
 use Rattle.sap_vtext.specs.Tokens.{Word, Sign}
 use Rattle.sap_vtext.specs.Tokens as t
 
--- a piece of the text: a token, a space, the end of a line, or the comment at the head; the numbers 0 and 1 where the grammar asks for them are pieces of their own
+-- A piece of the text: a token, a space, the end of a line, or the comment at the head; the numbers 0 and 1 where the
+-- grammar asks for them are pieces of their own.
 pub data Piece : Type 0 where
   space line comment : Piece
   zero one : Piece
@@ -41,7 +42,7 @@ piece_text (operand x) = operand_text x
 abbrev pub text_of : List Piece → List ℕ
 text_of ps = flat_map piece_text ps
 
--- `[n:0] `
+-- `[n:0] `.
 abbrev pub range_pieces : ℕ → List Piece
 range_pieces n = sign t.open_bracket ∷ number n ∷ sign t.colon ∷ zero ∷ sign t.close_bracket ∷ space ∷ []
 
@@ -49,7 +50,7 @@ range_pieces n = sign t.open_bracket ∷ number n ∷ sign t.colon ∷ zero ∷ 
 abbrev pub unary_text : Op1 → List ℕ
 unary_text op = sign_text (unary_sign op)
 
--- with a space on each side
+-- With a space on each side.
 abbrev pub binary_text : Op2 → List ℕ
 binary_text op = 32 ∷ (sign_text (binary_sign op) ++ (32 ∷ []))
 
@@ -57,7 +58,7 @@ binary_text op = 32 ∷ (sign_text (binary_sign op) ++ (32 ∷ []))
 abbrev pub part_pieces : Operand → List Piece
 part_pieces x = sign t.comma ∷ space ∷ operand x ∷ []
 
--- the parts of a `{}`, with commas between them
+-- The parts of a `{}`, with commas between them.
 abbrev pub parts_pieces : List Operand → List Piece
 parts_pieces [] = []
 parts_pieces (x ∷ xs) = operand x ∷ flat_map part_pieces xs
@@ -67,22 +68,26 @@ abbrev pub right_pieces : Right → List Piece
 right_pieces (item.copy x) = operand x ∷ []
 right_pieces (item.one op x) = sign (unary_sign op) ∷ operand x ∷ []
 right_pieces (item.two op x y) = operand x ∷ space ∷ sign (binary_sign op) ∷ space ∷ operand y ∷ []
-right_pieces (item.choose c x y) = operand c ∷ space ∷ sign t.question ∷ space ∷ operand x ∷ space ∷ sign t.colon ∷ space ∷ operand y ∷ []
+right_pieces (item.choose c x y) = operand c ∷ space ∷ sign t.question ∷ space ∷ operand x ∷ space
+    ∷ sign t.colon ∷ space ∷ operand y ∷ []
 right_pieces (item.concat xs) = sign t.open_brace ∷ (parts_pieces xs ++ (sign t.close_brace ∷ []))
-right_pieces (item.slice x high low) = name x.name ∷ sign t.open_bracket ∷ number high ∷ sign t.colon ∷ number low ∷ sign t.close_bracket ∷ []
+right_pieces (item.slice x high low) = name x.name ∷ sign t.open_bracket ∷ number high ∷ sign t.colon
+    ∷ number low ∷ sign t.close_bracket ∷ []
 right_pieces (item.cell m index) = name m.name ∷ sign t.open_bracket ∷ operand index ∷ sign t.close_bracket ∷ []
 
--- `always @(posedge clk) `
+-- `always @(posedge clk) `.
 abbrev pub clocked_pieces : List Piece
 clocked_pieces =
-    word t.always_word ∷ space ∷ sign t.at ∷ sign t.open_paren ∷ word t.posedge_word ∷ space ∷ word t.clk_word ∷ sign t.close_paren ∷ space ∷ []
+    word t.always_word ∷ space ∷ sign t.at ∷ sign t.open_paren ∷ word t.posedge_word ∷ space
+    ∷ word t.clk_word ∷ sign t.close_paren ∷ space ∷ []
 
--- `for (i = 0; i < n; i = i + 1) `
+-- `for (i = 0; i < n; i = i + 1) `.
 abbrev pub loop_pieces : ℕ → List Piece
 loop_pieces n =
     word t.for_word ∷ space ∷ sign t.open_paren ∷ word t.i_word ∷ space ∷ sign t.is ∷ space ∷ zero ∷ sign t.semicolon
     ∷ space ∷ word t.i_word ∷ space ∷ sign t.less ∷ space ∷ number n ∷ sign t.semicolon
-    ∷ space ∷ word t.i_word ∷ space ∷ sign t.is ∷ space ∷ word t.i_word ∷ space ∷ sign t.plus ∷ space ∷ one ∷ sign t.close_paren ∷ space ∷ []
+    ∷ space ∷ word t.i_word ∷ space ∷ sign t.is ∷ space ∷ word t.i_word ∷ space ∷ sign t.plus ∷ space
+    ∷ one ∷ sign t.close_paren ∷ space ∷ []
 
 -- The end of an item.
 abbrev pub end_of_item : List Piece
@@ -94,18 +99,23 @@ item_pieces (item.wire n x) = word t.wire_word ∷ space ∷ (range_pieces n.val
 item_pieces (item.register n x) = word t.reg_word ∷ space ∷ (range_pieces n.value ++ (name x.name ∷ end_of_item))
 item_pieces (item.memory n x last) =
     word t.reg_word ∷ space ∷ (range_pieces n.value
-    ++ (name x.name ∷ space ∷ sign t.open_bracket ∷ zero ∷ sign t.colon ∷ number last.value ∷ sign t.close_bracket ∷ end_of_item))
+    ++ (name x.name ∷ space ∷ sign t.open_bracket ∷ zero ∷ sign t.colon ∷ number last.value
+    ∷ sign t.close_bracket ∷ end_of_item))
 item_pieces (item.integer place) = word t.integer_word ∷ space ∷ word t.i_word ∷ end_of_item
-item_pieces (item.assign x right) = word t.assign_word ∷ space ∷ name x.name ∷ space ∷ sign t.is ∷ space ∷ (right_pieces right ++ end_of_item)
+item_pieces (item.assign x right) = word t.assign_word ∷ space ∷ name x.name ∷ space ∷ sign t.is ∷ space
+    ∷ (right_pieces right ++ end_of_item)
 item_pieces (item.initial x value) =
     word t.initial_word ∷ space ∷ name x.name ∷ space ∷ sign t.is ∷ space ∷ operand (item.constant value) ∷ end_of_item
 item_pieces (item.initial_cells place n x value) =
     word t.initial_word ∷ space ∷ (loop_pieces n.value
-    ++ (name x.name ∷ sign t.open_bracket ∷ word t.i_word ∷ sign t.close_bracket ∷ space ∷ sign t.is ∷ space ∷ operand (item.constant value) ∷ end_of_item))
-item_pieces (item.always x next) = clocked_pieces ++ (name x.name ∷ space ∷ sign t.less_or_equal ∷ space ∷ operand next ∷ end_of_item)
+    ++ (name x.name ∷ sign t.open_bracket ∷ word t.i_word ∷ sign t.close_bracket ∷ space ∷ sign t.is
+    ∷ space ∷ operand (item.constant value) ∷ end_of_item))
+item_pieces (item.always x next) = clocked_pieces
+    ++ (name x.name ∷ space ∷ sign t.less_or_equal ∷ space ∷ operand next ∷ end_of_item)
 item_pieces (item.always_cell condition x index value) =
     clocked_pieces
-    ++ (word t.if_word ∷ space ∷ sign t.open_paren ∷ operand condition ∷ sign t.close_paren ∷ space ∷ name x.name ∷ sign t.open_bracket ∷ operand index
+    ++ (word t.if_word ∷ space ∷ sign t.open_paren ∷ operand condition ∷ sign t.close_paren ∷ space
+    ∷ name x.name ∷ sign t.open_bracket ∷ operand index
     ∷ sign t.close_bracket ∷ space ∷ sign t.less_or_equal ∷ space ∷ operand value ∷ end_of_item)
 
 -- How an item is written.
@@ -124,7 +134,7 @@ clocked_text = text_of clocked_pieces
 unfoldable pub loop_text : ℕ → List ℕ
 loop_text n = text_of (loop_pieces n)
 
--- before each port but `input clk`, and where it stands
+-- Before each port but `input clk`, and where it stands.
 abbrev pub new_port : List Piece
 new_port = sign t.comma ∷ line ∷ space ∷ space ∷ []
 
@@ -142,10 +152,11 @@ port_pieces p = new_port ++ (direction_pieces p.direction ++ (range_pieces p.ran
 unfoldable pub port_text : Port → List ℕ
 port_text p = text_of (port_pieces p)
 
--- the comment on a line of its own, `module NAME(` and `input clk`
+-- The comment on a line of its own, `module NAME(` and `input clk`.
 abbrev pub head_pieces : List ℕ → List Piece
 head_pieces n =
-    comment ∷ line ∷ word t.module_word ∷ space ∷ name n ∷ sign t.open_paren ∷ line ∷ space ∷ space ∷ word t.input_word ∷ space ∷ word t.clk_word ∷ []
+    comment ∷ line ∷ word t.module_word ∷ space ∷ name n ∷ sign t.open_paren ∷ line ∷ space ∷ space
+    ∷ word t.input_word ∷ space ∷ word t.clk_word ∷ []
 
 -- The end of the ports.
 abbrev pub end_of_ports : List Piece
@@ -157,4 +168,5 @@ end_of_file = word t.endmodule_word ∷ line ∷ []
 
 -- The pieces of a module.
 abbrev pub file_pieces : File → List Piece
-file_pieces f = head_pieces f.module_name ++ (flat_map port_pieces f.ports ++ (end_of_ports ++ (flat_map item_pieces f.items ++ end_of_file)))
+file_pieces f = head_pieces f.module_name
+    ++ (flat_map port_pieces f.ports ++ (end_of_ports ++ (flat_map item_pieces f.items ++ end_of_file)))

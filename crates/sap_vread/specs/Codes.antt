@@ -15,7 +15,7 @@ number V5 = 5
 number V6 = 6
 number V7 = 7
 
--- the code of a fault of a text's file
+-- The code of a fault of a text's file.
 abbrev pub code_of : Code → ModCode
 code_of judged.V3 = V3
 code_of judged.V4 = V4

@@ -78,7 +78,8 @@ constants (item.assign x right) = right_constants right
 constants (item.initial x value) = value ∷ []
 constants (item.initial_cells place bound x value) = value ∷ []
 constants (item.always x next) = operand_constants next
-constants (item.always_cell condition x index value) = operand_constants condition ++ (operand_constants index ++ operand_constants value)
+constants (item.always_cell condition x index value) =
+    operand_constants condition ++ (operand_constants index ++ operand_constants value)
 constants _ = []
 
 -- The range that an item declares.
@@ -129,19 +130,26 @@ needs _ _ = false
 -- V3 is at a declared name that is declared before; a second `integer`; the name in a second `assign`, `initial` or
 -- `always` of one wire, register or memory.
 pub data V3 (f : File) : ℕ → Type 0 where
-  declared_before : (before after : List Declaration) (d : Declaration) → declarations f.ports f.items ≡ before ++ d ∷ after
+  declared_before : (before after : List Declaration) (d : Declaration)
+      → declarations f.ports f.items ≡ before ++ d ∷ after
       → IsSome (shape_in before d.name.name) → V3 f d.name.place
-  second_integer : {above : Above} {place : ℕ} → IsItemOf f above (item.integer place) → has_integer above.items ≡ true → V3 f place
+  second_integer : {above : Above} {place : ℕ} → IsItemOf f above (item.integer place)
+      → has_integer above.items ≡ true → V3 f place
   set_before : {above : Above} {x : Item} (t : Target) → IsItemOf f above x → target_of x ≡ Some t
-      → is_settable (shape_above above t.name.name) ≡ true → is_set t.setting t.name.name above.items ≡ true → V3 f t.name.place
+      → is_settable (shape_above above t.name.name) ≡ true
+      → is_set t.setting t.name.name above.items ≡ true → V3 f t.name.place
 
 -- V4 is at a used name that isn't declared before; an operand that is a wire not assigned before; the first `i` of a
 -- `for` without `integer i` before.
 pub data V4 (f : File) : ℕ → Type 0 where
-  undeclared : {above : Above} {x : Item} (u : Use) → IsItemOf f above x → StandsIn u (uses x) → shape_above above u.name.name ≡ None → V4 f u.name.place
-  unassigned : {above : Above} {x : Item} (u : Use) {width : ℕ} → IsItemOf f above x → StandsIn u (uses x) → u.manner ≡ as_value
-      → shape_above above u.name.name ≡ Some (wire width) → is_set assign u.name.name above.items ≡ false → V4 f u.name.place
-  no_integer : {above : Above} {place : ℕ} {bound : Number} {x : Mention} {value : Constant} → IsItemOf f above (item.initial_cells place bound x value)
+  undeclared : {above : Above} {x : Item} (u : Use) → IsItemOf f above x → StandsIn u (uses x)
+      → shape_above above u.name.name ≡ None → V4 f u.name.place
+  unassigned : {above : Above} {x : Item} (u : Use) {width : ℕ} → IsItemOf f above x
+      → StandsIn u (uses x) → u.manner ≡ as_value
+      → shape_above above u.name.name ≡ Some (wire width)
+      → is_set assign u.name.name above.items ≡ false → V4 f u.name.place
+  no_integer : {above : Above} {place : ℕ} {bound : Number} {x : Mention} {value : Constant}
+      → IsItemOf f above (item.initial_cells place bound x value)
       → has_integer above.items ≡ false → V4 f place
 
 -- V5 is at a range's number over 63; a constant whose width isn't 1 to 64 or whose number doesn't fit; the target's
@@ -149,32 +157,43 @@ pub data V4 (f : File) : ℕ → Type 0 where
 -- out of range.
 pub data V5 (f : File) : ℕ → Type 0 where
   wide_port : (p : Port) → StandsIn p f.ports → 63 < p.range.value → V5 f p.range.place
-  wide_range : {above : Above} {x : Item} (n : Number) → IsItemOf f above x → StandsIn n (ranges x) → 63 < n.value → V5 f n.place
-  unfit : {above : Above} {x : Item} (c : Constant) → IsItemOf f above x → StandsIn c (constants x) → constant_fits c ≡ false → V5 f c.place
-  widths_differ : {above : Above} {x : Item} (t : Target) (p : Option ℕ × Option ℕ) → IsItemOf f above x → target_of x ≡ Some t
+  wide_range : {above : Above} {x : Item} (n : Number) → IsItemOf f above x → StandsIn n (ranges x)
+      → 63 < n.value → V5 f n.place
+  unfit : {above : Above} {x : Item} (c : Constant) → IsItemOf f above x → StandsIn c (constants x)
+      → constant_fits c ≡ false → V5 f c.place
+  widths_differ : {above : Above} {x : Item} (t : Target) (p : Option ℕ × Option ℕ) → IsItemOf f above x
+      → target_of x ≡ Some t
       → StandsIn p (pairs (known_above above) x) → Differ p → V5 f t.name.place
-  wide_concat : {above : Above} {x : Mention} {parts : List Operand} {width : ℕ} → IsItemOf f above (item.assign x (item.concat parts))
+  wide_concat : {above : Above} {x : Mention} {parts : List Operand} {width : ℕ}
+      → IsItemOf f above (item.assign x (item.concat parts))
       → parts_width (known_above above) parts ≡ Some width → 64 < width → V5 f x.place
-  out_of_range : {above : Above} {x y : Mention} {high low : ℕ} {shape : Shape} → IsItemOf f above (item.assign x (item.slice y high low))
+  out_of_range : {above : Above} {x y : Mention} {high low : ℕ} {shape : Shape}
+      → IsItemOf f above (item.assign x (item.slice y high low))
       → shape_above above y.name ≡ Some shape → (low ≤ high → high < shape_width shape → ⊥) → V5 f y.place
 
 -- V6 is at the declared name of a wire without `assign`, or of a register or memory without `initial` or without
 -- `always`.
 pub data V6 (f : File) : ℕ → Type 0 where
-  unset : (d : Declaration) (s : Setting) → StandsIn d (declarations f.ports f.items) → needs d.shape s ≡ true → is_set s d.name.name f.items ≡ false
+  unset : (d : Declaration) (s : Setting) → StandsIn d (declarations f.ports f.items)
+      → needs d.shape s ≡ true → is_set s d.name.name f.items ≡ false
       → V6 f d.name.place
 
 -- V7 is at a memory's number whose depth isn't a power of two from 2 to 4096; the number of a `for` that isn't the
 -- memory's depth; an index operand whose width isn't the memory's index width; a declared name used as another kind.
 pub data V7 (f : File) : ℕ → Type 0 where
-  no_depth : {above : Above} {range last : Number} {x : Mention} → IsItemOf f above (item.memory range x last) → (HasIndex (last.value + 1) → ⊥)
+  no_depth : {above : Above} {range last : Number} {x : Mention}
+      → IsItemOf f above (item.memory range x last) → (HasIndex (last.value + 1) → ⊥)
       → V7 f last.place
   other_bound : {above : Above} {place : ℕ} {bound : Number} {x : Mention} {value : Constant} {width depth : ℕ}
-      → IsItemOf f above (item.initial_cells place bound x value) → shape_above above x.name ≡ Some (memory width depth) → bound.value ≢ depth
+      → IsItemOf f above (item.initial_cells place bound x value)
+      → shape_above above x.name ≡ Some (memory width depth) → bound.value ≢ depth
       → V7 f bound.place
-  other_index : {above : Above} {x : Item} (m : Mention) (index : Operand) {width b u : ℕ} → IsItemOf f above x → StandsIn (m, index) (indexes x)
-      → shape_above above m.name ≡ Some (memory width (2 ^ b)) → operand_width (known_above above) index ≡ Some u → u ≢ b → V7 f (operand_place index)
-  other_kind : {above : Above} {x : Item} (u : Use) {shape : Shape} → IsItemOf f above x → StandsIn u (uses x) → shape_above above u.name.name ≡ Some shape
+  other_index : {above : Above} {x : Item} (m : Mention) (index : Operand) {width b u : ℕ}
+      → IsItemOf f above x → StandsIn (m, index) (indexes x)
+      → shape_above above m.name ≡ Some (memory width (2 ^ b))
+      → operand_width (known_above above) index ≡ Some u → u ≢ b → V7 f (operand_place index)
+  other_kind : {above : Above} {x : Item} (u : Use) {shape : Shape} → IsItemOf f above x
+      → StandsIn u (uses x) → shape_above above u.name.name ≡ Some shape
       → suits u.manner shape ≡ false → V7 f u.name.place
 
 -- None of V3 to V7 stands anywhere.

@@ -28,7 +28,8 @@ word_text i_word = codes "i"
 
 -- The keywords.
 abbrev pub words : List Word
-words = module_word ∷ endmodule_word ∷ input_word ∷ output_word ∷ reg_word ∷ wire_word ∷ assign_word ∷ initial_word ∷ always_word
+words = module_word ∷ endmodule_word ∷ input_word ∷ output_word ∷ reg_word ∷ wire_word ∷ assign_word
+    ∷ initial_word ∷ always_word
     ∷ posedge_word ∷ if_word ∷ for_word ∷ integer_word ∷ clk_word ∷ i_word ∷ []
 
 -- How a sign is written.
@@ -62,7 +63,8 @@ sign_text tilde = codes "~"
 -- The signs of two bytes stand first, so that the longest is found first.
 abbrev pub signs : List Sign
 signs =
-    equal ∷ not_equal ∷ less_or_equal ∷ shift_left ∷ shift_right ∷ open_paren ∷ close_paren ∷ open_brace ∷ close_brace ∷ open_bracket ∷ close_bracket ∷ comma ∷ semicolon
+    equal ∷ not_equal ∷ less_or_equal ∷ shift_left ∷ shift_right ∷ open_paren ∷ close_paren ∷ open_brace
+    ∷ close_brace ∷ open_bracket ∷ close_bracket ∷ comma ∷ semicolon
     ∷ colon ∷ question ∷ at ∷ is ∷ less ∷ plus ∷ minus ∷ star ∷ ampersand ∷ bar ∷ caret ∷ tilde ∷ []
 
 -- At the front of a text stands white space or a comment, or a token, each with its length, or neither.
@@ -99,7 +101,8 @@ is_below_2_64 n = nat_lt n (2 ^ 64)
 
 -- A run of digits as a number, where it is below 2^64.
 abbrev pub number_front : List ℕ → Front
-number_front digits = if is_below_2_64 (digits_value 10 digits) then token (number (digits_value 10 digits) (length digits)) (length digits) else bad
+number_front digits = if is_below_2_64 (digits_value 10 digits)
+    then token (number (digits_value 10 digits) (length digits)) (length digits) else bad
 
 -- A constant has the width's digits and the number's.
 abbrev pub constant_front : List ℕ → List ℕ → Front
@@ -114,11 +117,13 @@ digits_of_front bs = take_while is_ascii_digit bs
 
 -- Digits that don't begin with 0 are a constant's width where `'d` and a digit follow.
 abbrev pub is_constant : List ℕ → List ℕ → Bool
-is_constant digits after = not (slice_index digits 0 == byte "0") && (starts_with nat_eq after (codes "'d") && is_ascii_digit (slice_index after 2))
+is_constant digits after = not (slice_index digits 0 == byte "0")
+    && (starts_with nat_eq after (codes "'d") && is_ascii_digit (slice_index after 2))
 
 -- A run of digits and what follows: a constant where `'d` and a digit follow, else a number.
 abbrev pub digits_front : List ℕ → List ℕ → Front
-digits_front digits after = if is_constant digits after then constant_front digits (digits_of_front (drop 2 after)) else number_front digits
+digits_front digits after = if is_constant digits after
+    then constant_front digits (digits_of_front (drop 2 after)) else number_front digits
 
 -- What the bytes begin with: a blank, a comment, a name, a number, a constant or a sign.
 unfoldable pub front : List ℕ → Front
@@ -127,13 +132,15 @@ front (b ∷ bs) =
     if is_blank b then blank 1
     else (if starts_with nat_eq (b ∷ bs) (codes "//") then blank (prefix_len is_in_line (b ∷ bs))
     else (if is_initial b then name_front (take_while is_inner (b ∷ bs))
-    else (if is_ascii_digit b then digits_front (digits_of_front (b ∷ bs)) (drop (length (digits_of_front (b ∷ bs))) (b ∷ bs))
+    else (if is_ascii_digit b then digits_front (digits_of_front (b ∷ bs))
+    (drop (length (digits_of_front (b ∷ bs))) (b ∷ bs))
     else sign_front (b ∷ bs))))
 
 -- The text behind the first `from` bytes is these tokens, with white space and comments between them.
 pub data Lexed : ℕ → List ℕ → List Token → Type 0 where
   end : {from : ℕ} → Lexed from [] []
-  blank_first : {from : ℕ} {bs : List ℕ} {tokens : List Token} (len : ℕ) → front bs ≡ blank len → Lexed (from + len) (drop len bs) tokens
+  blank_first : {from : ℕ} {bs : List ℕ} {tokens : List Token} (len : ℕ) → front bs ≡ blank len
+      → Lexed (from + len) (drop len bs) tokens
       → Lexed from bs tokens
   token_first : {from : ℕ} {bs : List ℕ} {tokens : List Token} (kind : Kind) (len : ℕ) → front bs ≡ token kind len
       → Lexed (from + len) (drop len bs) tokens → Lexed from bs (record { place = from; kind = kind } ∷ tokens)

@@ -66,7 +66,11 @@ declared_width None = 0
 
 -- Each `assign` is a wire.
 abbrev pub net_wires : List Declaration → item.Item → List Wire
-net_wires ds (item.assign x right) = record { name = x.name; width = declared_width (shape_in ds x.name); right = net_right right } ∷ []
+net_wires ds (item.assign x right) = record {
+  name = x.name;
+  width = declared_width (shape_in ds x.name);
+  right = net_right right;
+} ∷ []
 net_wires ds _ = []
 
 -- The first of two that is there.
@@ -113,12 +117,25 @@ nothing = Constant 0 0
 -- The register of a name, with the start and the next operand that the items give it.
 abbrev pub net_register : Name → ℕ → List item.Item → Register
 net_register n width xs =
-    record { name = n; width = width; start = unwrap_or (first_given (initial_number n) xs) 0; next = unwrap_or (first_given (next_operand n) xs) nothing }
+    record {
+      name = n;
+      width = width;
+      start = unwrap_or (first_given (initial_number n) xs) 0;
+      next = unwrap_or (first_given (next_operand n) xs) nothing;
+    }
 
 -- A memory with its write port.
 abbrev pub written_memory : Name → ℕ → ℕ → ℕ → Write → Memory
 written_memory n width depth start w =
-    record { name = n; width = width; depth = depth; start = start; enable = w.enable; index = w.index; value = w.value }
+    record {
+      name = n;
+      width = width;
+      depth = depth;
+      start = start;
+      enable = w.enable;
+      index = w.index;
+      value = w.value;
+    }
 
 -- The memory of a name, with the start and the write that the items give it.
 abbrev pub net_memory : Name → ℕ → ℕ → List item.Item → Memory
@@ -160,6 +177,6 @@ pub record IsModule (bytes : List ℕ) (net : Net) : Type 0 where
   pub faultless : IsFaultless file
   pub netlist : netlist_of file ≡ net
 
--- a text is at most one module
+-- A text is at most one module.
 abbrev pub OneModule : Type 0
 OneModule = (bytes : List ℕ) (m n : Net) → IsModule bytes m → IsModule bytes n → m ≡ n

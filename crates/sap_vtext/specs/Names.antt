@@ -31,7 +31,8 @@ port_declaration p = record { name = p.name; shape = port_shape p.direction (p.r
 abbrev pub item_declarations : Item → List Declaration
 item_declarations (item.wire range x) = record { name = x; shape = wire (range.value + 1) } ∷ []
 item_declarations (item.register range x) = record { name = x; shape = register (range.value + 1) } ∷ []
-item_declarations (item.memory range x last) = record { name = x; shape = memory (range.value + 1) (last.value + 1) } ∷ []
+item_declarations (item.memory range x last) =
+    record { name = x; shape = memory (range.value + 1) (last.value + 1) } ∷ []
 item_declarations _ = []
 
 -- The declarations of a module, in the order of its text.
@@ -113,4 +114,8 @@ pub record Known : Type 0 where
 
 -- `known_above` is what is known where this stands above.
 abbrev pub known_above : Above → Known
-known_above above = record { shape = shape_above above; set = λ s n. is_set s n above.items; integer = has_integer above.items }
+known_above above = record {
+  shape = shape_above above;
+  set = λ s n. is_set s n above.items;
+  integer = has_integer above.items;
+}

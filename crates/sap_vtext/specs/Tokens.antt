@@ -3,7 +3,8 @@ use Rattle.std.specs.Prelude.{◌≡◌, ℕ, List, ◌∷◌}
 
 -- These are the keywords.
 pub data Word : Type 0 where
-  module_word endmodule_word input_word output_word reg_word wire_word assign_word initial_word always_word posedge_word if_word for_word integer_word clk_word i_word : Word
+  module_word endmodule_word input_word output_word reg_word wire_word assign_word initial_word
+      always_word posedge_word if_word for_word integer_word clk_word i_word : Word
 
 -- These are the signs.
 pub data Sign : Type 0 where

@@ -1,4 +1,5 @@
--- The width rules: which widths have to be equal by what is known where an item stands. A width is there only where what has it has no fault of its own.
+-- The width rules: which widths have to be equal by what is known where an item stands. A width is there only where
+-- what has it has no fault of its own.
 use Rattle.std.specs.Prelude.{◌≢◌, ℕ, ◌+◌, ◌-◌, ◌^◌, List, [], ◌∷◌, Bool, true, ◌&&◌, nat_lt, nat_le, if◌then◌else◌, Option, Some, None}
 use Rattle.sap_bits.specs.declared.Op1.{Op1}
 use Rattle.sap_bits.specs.declared.Op1.TheVariants as unary

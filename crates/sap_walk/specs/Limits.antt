@@ -35,7 +35,8 @@ unless_broken None a = Ok a
 unless_broken (Some limit) a = Err limit
 
 -- `a` token in its role has gone by.
-abbrev pub passed : {Role Token Counts Limit : Type 0} → (Counts → Role → Token → Counts) → (Counts → Role → Token → Option Limit)
+abbrev pub passed : {Role Token Counts Limit : Type 0} → (Counts → Role → Token → Counts)
+    → (Counts → Role → Token → Option Limit)
     → Role → Token → Past Counts Limit → Past Counts Limit
 passed tally breach role t past = record {
   before = past.before + 1;
@@ -44,7 +45,7 @@ passed tally breach role t past = record {
 }
 
 module _ (G : Limited) where
-  -- the walk that goes past each limit
+  -- The walk that goes past each limit.
   abbrev pub lenient : Table
   lenient = record {
     Symbol = G.Symbol;
@@ -57,7 +58,7 @@ module _ (G : Limited) where
     enter = λ role t past. Ok (passed G.tally G.breach role t past);
   }
 
-  -- the walk that stops where a limit is broken
+  -- The walk that stops where a limit is broken.
   abbrev pub strict : Table
   strict = record {
     Symbol = G.Symbol;

@@ -3,7 +3,10 @@
 use Rattle.std.specs.Prelude.{ℕ, ◌+◌, List, [], ◌∷◌, ◌++◌}
 
 -- The first bytes are these tokens, with blanks between them.
-pub data Reached {Token : Type 0} (Blank : ℕ → ℕ → Type 0) (Stands : ℕ → Token → ℕ → Type 0) : ℕ → List Token → Type 0 where
+pub data Reached {Token : Type 0} (Blank : ℕ → ℕ → Type 0) (Stands : ℕ → Token → ℕ → Type 0) : ℕ
+    → List Token → Type 0 where
   start : Reached Blank Stands 0 []
-  blank : {n : ℕ} {ts : List Token} (len : ℕ) → Reached Blank Stands n ts → Blank n len → Reached Blank Stands (n + len) ts
-  token : {n : ℕ} {ts : List Token} (t : Token) (len : ℕ) → Reached Blank Stands n ts → Stands n t len → Reached Blank Stands (n + len) (ts ++ t ∷ [])
+  blank : {n : ℕ} {ts : List Token} (len : ℕ) → Reached Blank Stands n ts → Blank n len
+      → Reached Blank Stands (n + len) ts
+  token : {n : ℕ} {ts : List Token} (t : Token) (len : ℕ) → Reached Blank Stands n ts → Stands n t len
+      → Reached Blank Stands (n + len) (ts ++ t ∷ [])

@@ -21,11 +21,17 @@ pub record Dumping : Type 0 where
   -- the text of the last of these; none of them has none
   pub block : List ℕ
 
--- a netlist before its first cycle
+-- A netlist before its first cycle.
 abbrev pub begun : Net → Dumping
-begun n = record { variables = variables_of n; first = initial_numbers n; last = initial_numbers n; count = 0; block = [] }
+begun n = record {
+  variables = variables_of n;
+  first = initial_numbers n;
+  last = initial_numbers n;
+  count = 0;
+  block = [];
+}
 
--- one block more, after which the variables have these numbers
+-- One block more, after which the variables have these numbers.
 abbrev pub with_block : Dumping → List ℕ → Dumping
 with_block d numbers =
     record {
@@ -36,32 +42,32 @@ with_block d numbers =
       block = text_of (block_of (d.count + 1) d.variables d.last numbers);
     }
 
--- the numbers that are seen of the variables
+-- The numbers that are seen of the variables.
 abbrev pub numbers_seen : Net → (cycle : Option Valuation) → List ℕ
 numbers_seen n cycle = map (λ x. (seen n cycle).value x.name) (variables_of n)
 
--- each variable has its place in a runner of the netlist
+-- Each variable has its place in a runner of the netlist.
 abbrev pub StandAt : Net → List Variable → (places : List ℕ) → Type 0
 StandAt n xs places = map (slice_get (value_names n)) places ≡ map (λ x. Some x.name) xs
 
--- one block more, by what a runner shows
+-- One block more, by what a runner shows.
 abbrev pub AddsBlock : Running → (old new : Dumping) → Type 0
 AddsBlock r old new = (cycle : Option Valuation) → Shows r cycle → new ≡ with_block old (numbers_seen r.net cycle)
 
--- how many bytes changes take at most, where the first of these variables has the number k
+-- How many bytes changes take at most, where the first of these variables has the number k.
 abbrev pub changes_room : (k : ℕ) → List Variable → ℕ
 changes_room k [] = 0
 changes_room k (x ∷ xs) = x.width + length (identifier k) + 3 + changes_room (k + 1) xs
 
--- how many bytes a block takes at most: its number is counted as 20 digits
+-- How many bytes a block takes at most: its number is counted as 20 digits.
 abbrev pub block_room : List Variable → ℕ
 block_room xs = 22 + changes_room 0 xs
 
--- the numbers after the last of these cycles
+-- The numbers after the last of these cycles.
 abbrev pub last_numbers : Net → List Valuation → List ℕ
 last_numbers n vs = last_among (initial_numbers n) (map (numbers_after n) vs)
 
--- the dump is that of a netlist's run of these cycles, as far as it is written
+-- The dump is that of a netlist's run of these cycles, as far as it is written.
 pub record IsAfter (n : Net) (vs : List Valuation) (d : Dumping) : Type 0 where
   pub variables : d.variables ≡ variables_of n
   pub first : d.first ≡ initial_numbers n
@@ -74,4 +80,5 @@ pub record BlocksAddUp (n : Net) : Type 0 where
   pub begins : IsAfter n [] (begun n) × (run_dump n [] ≡ text_of (head (variables_of n) (initial_numbers n)))
   -- a cycle more has a block more
   pub goes_on : (vs : List Valuation) (v : Valuation) (d : Dumping) → IsAfter n vs d
-      → IsAfter n (vs ++ (v ∷ [])) (with_block d (numbers_after n v)) × (run_dump n (vs ++ (v ∷ [])) ≡ run_dump n vs ++ (with_block d (numbers_after n v)).block)
+      → IsAfter n (vs ++ (v ∷ [])) (with_block d (numbers_after n v))
+      × (run_dump n (vs ++ (v ∷ [])) ≡ run_dump n vs ++ (with_block d (numbers_after n v)).block)

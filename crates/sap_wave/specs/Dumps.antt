@@ -5,47 +5,49 @@ use Rattle.sap_wave.specs.Lines.{Form, timescale, scope, upscope, end_definition
 use Rattle.sap_wave.specs.Waves.{IsFit, Wave}
 use Rattle.sap_wave.specs.declared.variable.Variable.{Variable}
 
--- variable k is declared
+-- Variable k is declared.
 abbrev pub declaration : (k : ℕ) → Variable → Form
 declaration k x = variable (numeral x.width) (identifier k) x.name
 
--- each variable, the first of which has the number k
+-- Each variable, the first of which has the number k.
 abbrev pub declarations : (k : ℕ) → List Variable → List Form
 declarations k [] = []
 declarations k (x ∷ xs) = declaration k x ∷ declarations (k + 1) xs
 
--- variable k has this number
+-- Variable k has this number.
 abbrev pub set_to : (k : ℕ) → Variable → ℕ → Form
 set_to k x number = change (bits x.width number) (identifier k)
 
--- each variable has its number
+-- Each variable has its number.
 abbrev pub all_set : (k : ℕ) → List Variable → List ℕ → List Form
 all_set k [] numbers = []
 all_set k (x ∷ xs) [] = []
 all_set k (x ∷ xs) (n ∷ ns) = set_to k x n ∷ all_set (k + 1) xs ns
 
--- each variable whose number isn't the one before
+-- Each variable whose number isn't the one before.
 abbrev pub changes : (k : ℕ) → List Variable → (before after : List ℕ) → List Form
 changes k [] before after = []
 changes k (x ∷ xs) [] after = []
 changes k (x ∷ xs) (m ∷ ms) [] = []
-changes k (x ∷ xs) (m ∷ ms) (n ∷ ns) = if m == n then changes (k + 1) xs ms ns else set_to k x n ∷ changes (k + 1) xs ms ns
+changes k (x ∷ xs) (m ∷ ms) (n ∷ ns) = if m == n then changes (k + 1) xs ms ns
+    else set_to k x n ∷ changes (k + 1) xs ms ns
 
--- the head of a dump, with block 0
+-- The head of a dump, with block 0.
 abbrev pub head : List Variable → (first : List ℕ) → List Form
 head xs first =
-    timescale ∷ (scope ∷ (declarations 0 xs ++ (upscope ∷ (end_definitions ∷ (block (numeral 0) ∷ all_set 0 xs first)))))
+    timescale ∷ (scope ∷ (declarations 0 xs ++ (upscope
+    ∷ (end_definitions ∷ (block (numeral 0) ∷ all_set 0 xs first)))))
 
--- block n
+-- Block n.
 abbrev pub block_of : (n : ℕ) → List Variable → (before after : List ℕ) → List Form
 block_of n xs before after = block (numeral n) ∷ changes 0 xs before after
 
--- the blocks from n on, by the numbers before them and after each
+-- The blocks from n on, by the numbers before them and after each.
 abbrev pub blocks_from : (n : ℕ) → List Variable → (before : List ℕ) → List (List ℕ) → List Form
 blocks_from n xs before [] = []
 blocks_from n xs before (after ∷ rest) = block_of n xs before after ++ blocks_from (n + 1) xs after rest
 
--- the last of some numbers, or those before them
+-- The last of some numbers, or those before them.
 abbrev pub last_among : (before : List ℕ) → List (List ℕ) → List ℕ
 last_among before [] = before
 last_among before (after ∷ rest) = last_among after rest
@@ -58,7 +60,7 @@ dump xs first rest = head xs first ++ blocks_from 1 xs first rest
 abbrev pub dump_text : List Variable → (first : List ℕ) → (rest : List (List ℕ)) → List ℕ
 dump_text xs first rest = text_of (dump xs first rest)
 
--- the dump of a wave that has a block 0
+-- The dump of a wave that has a block 0.
 abbrev pub dump_of : Wave → List ℕ
 dump_of w = dump_text w.variables (get_or w.blocks 0 []) (drop 1 w.blocks)
 

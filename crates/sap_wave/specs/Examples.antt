@@ -14,7 +14,8 @@ of_width width name = record { name = name; width = width }
 
 -- Two values with their tags.
 abbrev pub variables : List Variable
-variables = of_width 8 (codes "v_x") ∷ (of_width 1 (codes "t_x") ∷ (of_width 8 (codes "v_y") ∷ (of_width 1 (codes "t_y") ∷ [])))
+variables = of_width 8 (codes "v_x") ∷ (of_width 1 (codes "t_x")
+    ∷ (of_width 8 (codes "v_y") ∷ (of_width 1 (codes "t_y") ∷ [])))
 
 -- The numbers of the first block.
 abbrev pub first : List ℕ
@@ -33,7 +34,7 @@ abbrev pub lines : List (List ℕ) → List ℕ
 lines [] = []
 lines (text ∷ texts) = line text ++ lines texts
 
--- the line that begins the last block is the fourteenth
+-- The line that begins the last block is the fourteenth.
 abbrev pub text : (last_block : List ℕ) → List ℕ
 text last_block =
     lines (
@@ -64,7 +65,7 @@ Written = dump_text variables first (second ∷ []) ≡ text (codes "#1")
 abbrev pub Read : Type 0
 Read = IsReading (text (codes "#1")) wave
 
--- the second block has the number 1
+-- The second block has the number 1.
 abbrev pub OtherNumber : Type 0
 OtherNumber = IsFault (text (codes "#2")) 14 Y4
 
@@ -80,38 +81,40 @@ one_variable rest =
     ∷ rest))))
     )
 
--- nothing at all
+-- Nothing at all.
 abbrev pub Nothing : Type 0
 Nothing = IsFault [] 1 Y1
 
--- a line without LF
+-- A line without LF.
 abbrev pub NotEnded : Type 0
 NotEnded = IsFault (codes "$timescale 1ns $end") 1 Y1
 
--- no block
+-- No block.
 abbrev pub NoBlock : Type 0
 NoBlock = IsFault (one_variable []) 6 Y1
 
--- the identifier of the second variable at the first
+-- The identifier of the second variable at the first.
 abbrev pub OtherIdentifier : Type 0
-OtherIdentifier = IsFault (lines (codes "$timescale 1ns $end" ∷ (codes "$scope module top $end" ∷ (codes "$var reg 1 \" v $end" ∷ [])))) 3 Y2
+OtherIdentifier = IsFault (lines (codes "$timescale 1ns $end"
+    ∷ (codes "$scope module top $end" ∷ (codes "$var reg 1 \" v $end" ∷ [])))) 3 Y2
 
--- a change of a second variable, where there is one
+-- A change of a second variable, where there is one.
 abbrev pub UnknownVariable : Type 0
 UnknownVariable = IsFault (one_variable (codes "#0" ∷ (codes "b0 \"" ∷ []))) 7 Y3
 
--- a change to the number that stands
+-- A change to the number that stands.
 abbrev pub SameNumber : Type 0
 SameNumber = IsFault (one_variable (codes "#0" ∷ (codes "b0 !" ∷ (codes "#1" ∷ (codes "b0 !" ∷ []))))) 9 Y5
 
--- a block 0 without the variable
+-- A block 0 without the variable.
 abbrev pub NoNumber : Type 0
 NoNumber = IsFault (one_variable (codes "#0" ∷ [])) 7 Y5
 
--- identifiers of one, two and three digits
+-- Identifiers of one, two and three digits.
 abbrev pub Identifiers : Type 0
 Identifiers =
-    (identifier 0 ≡ codes "!") × (identifier 93 ≡ codes "~") × (identifier 94 ≡ codes "\"!") × (identifier 8835 ≡ codes "~~") × (identifier 8836 ≡ codes "\"!!")
+    (identifier 0 ≡ codes "!") × (identifier 93 ≡ codes "~") × (identifier 94 ≡ codes "\"!")
+    × (identifier 8835 ≡ codes "~~") × (identifier 8836 ≡ codes "\"!!")
 
 -- How numbers are written in binary digits.
 abbrev pub Bits : Type 0

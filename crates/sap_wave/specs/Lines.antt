@@ -19,19 +19,20 @@ form_text timescale = codes "$timescale 1ns $end"
 form_text scope = codes "$scope module top $end"
 form_text upscope = codes "$upscope $end"
 form_text end_definitions = codes "$enddefinitions $end"
-form_text (variable width id name) = codes "$var reg " ++ (width ++ (byte " " ∷ (id ++ (byte " " ∷ (name ++ codes " $end")))))
+form_text (variable width id name) = codes "$var reg "
+    ++ (width ++ (byte " " ∷ (id ++ (byte " " ∷ (name ++ codes " $end")))))
 form_text (block number) = byte "#" ∷ number
 form_text (change digits id) = byte "b" ∷ (digits ++ (byte " " ∷ id))
 
--- decimal digits, of which the first isn't 0 unless it is alone
+-- Decimal digits, of which the first isn't 0 unless it is alone.
 abbrev pub is_number : List ℕ → Bool
 is_number text = are_digits 48 10 text && (length text == 1 || not (slice_index text 0 == byte "0"))
 
--- bytes from `!` to `~`
+-- Bytes from `!` to `~`.
 abbrev pub is_id : List ℕ → Bool
 is_id text = are_digits 33 94 text
 
--- a byte or more, and no space
+-- A byte or more, and no space.
 abbrev pub is_piece : List ℕ → Bool
 is_piece text = nat_le 1 (length text) && list_all (λ b. not (b == byte " ")) text
 
@@ -42,17 +43,17 @@ is_formed (block number) = is_number number
 is_formed (change digits id) = are_digits 48 2 digits && is_id id
 is_formed _ = true
 
--- the line has an LF and is of this form
+-- The line has an LF and is of this form.
 pub record IsLine (l : Line) (f : Form) : Type 0 where
   pub ended : l.ended ≡ true
   pub text : form_text f ≡ l.text
   pub formed : is_formed f ≡ true
 
--- lines of these forms
+-- Lines of these forms.
 abbrev pub text_of : List Form → List ℕ
 text_of [] = []
 text_of (f ∷ fs) = line (form_text f) ++ text_of fs
 
--- the line of this text with its LF
+-- The line of this text with its LF.
 abbrev pub ended : (text : List ℕ) → Line
 ended text = record { text = text; ended = true }

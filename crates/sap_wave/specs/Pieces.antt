@@ -6,7 +6,7 @@ use Rattle.std.specs.List.{list_all}
 abbrev pub is_not : (mark : ℕ) → ℕ → Bool
 is_not mark b = not (b == mark)
 
--- at the first byte of this value
+-- At the first byte of this value.
 pub record IsCut (mark : ℕ) (text before behind : List ℕ) : Type 0 where
   pub whole : text ≡ before ++ (mark ∷ behind)
   pub first : list_all (is_not mark) before ≡ true

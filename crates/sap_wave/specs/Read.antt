@@ -10,18 +10,19 @@ use Rattle.sap_wave.specs.Reading.{State, before_timescale, Reads}
 use Rattle.sap_wave.specs.Faults.{IsFault, IsLeast, StopsFrom}
 use Rattle.sap_wave.specs.Sound.{IsSound}
 
--- what is left of the text begins in this line and state
+-- What is left of the text begins in this line and state.
 pub record ReadUpTo (bytes rest : List ℕ) (n : ℕ) (s : State) : Type 0 where
   pub reads : (t : State) → Reads s (lines_of rest) t → Reads before_timescale (lines_of bytes) t
-  pub stops : (line : ℕ) (code : WaveCode) → StopsFrom n s (lines_of rest) line code → StopsFrom 1 before_timescale (lines_of bytes) line code
+  pub stops : (line : ℕ) (code : WaveCode) → StopsFrom n s (lines_of rest) line code
+      → StopsFrom 1 before_timescale (lines_of bytes) line code
   pub sound : IsSound s
 
--- the code and the line are the first fault of these bytes
+-- The code and the line are the first fault of these bytes.
 abbrev pub IsWaveFault : (bytes : List ℕ) → WaveFault → Type 0
 IsWaveFault bytes (Rule code line) = IsFault bytes line code
 IsWaveFault bytes Memory = ⊥
 
--- the least of the codes that stand, at this line, unless there was no memory
+-- The least of the codes that stand, at this line, unless there was no memory.
 abbrev pub IsFaultAt : (Stand : WaveCode → Type 0) → (line : ℕ) → WaveFault → Type 0
 IsFaultAt Stand line (Rule code there) = (there ≡ line) × IsLeast Stand code
 IsFaultAt Stand line Memory = Unit {0}

@@ -10,9 +10,10 @@ use Rattle.sap_wave.specs.declared.variable.Variable.{Variable}
 use Rattle.sap_wave.specs.Waves.{Wave}
 use Rattle.sap_wave.specs.Dumps.{dump_of}
 
--- the registers that these ports show, in their order
+-- The registers that these ports show, in their order.
 abbrev pub variables_among : Net → List Port → List Variable
-variables_among n ps = map (λ p. record { name = p.name; width = width_of n p.name }) (filter (λ p. is_register p.kind) ps)
+variables_among n ps = map (λ p. record { name = p.name; width = width_of n p.name })
+    (filter (λ p. is_register p.kind) ps)
 
 -- The variables of a dump of a net's run: its registers that ports show.
 abbrev pub variables_of : Net → List Variable
@@ -26,11 +27,11 @@ initial_of n xs = map (λ x. initial_number n x.name) xs
 abbrev pub initial_numbers : Net → List ℕ
 initial_numbers n = initial_of n (variables_of n)
 
--- the numbers after the edge of a cycle
+-- The numbers after the edge of a cycle.
 abbrev pub numbers_after : Net → Valuation → List ℕ
 numbers_after n v = map (λ x. (observed n v).value x.name) (variables_of n)
 
--- a run as a wave, and what is written of it
+-- A run as a wave, and what is written of it.
 abbrev pub run_wave : Net → List Valuation → Wave
 run_wave n vs = record { variables = variables_of n; blocks = initial_numbers n ∷ map (numbers_after n) vs }
 

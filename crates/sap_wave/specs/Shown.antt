@@ -7,6 +7,6 @@ use Rattle.sap_net.specs.declared.parts.Register.{Register}
 abbrev pub names_in : List Register → List Name
 names_in rs = map (λ r. r.name) rs
 
--- the register stands on the list
+-- The register stands on the list.
 abbrev pub StandsIn : List Register → Register → Type 0
 StandsIn rs r = (k : ℕ) × (k < length rs) × (r ≡ get_or rs k r)

@@ -29,7 +29,7 @@ state_of (held.BeforeEnd xs) = before_end xs.items
 state_of (held.BeforeBlocks xs) = before_blocks xs.items
 state_of (held.InBlock xs b) = in_block xs.items (open_of b)
 
--- the variables are at their places by their names
+-- The variables are at their places by their names.
 abbrev pub IsIndexed : Held → Type 0
 IsIndexed held.BeforeTimescale = Unit {0}
 IsIndexed held.BeforeScope = Unit {0}
@@ -38,32 +38,32 @@ IsIndexed (held.BeforeEnd xs) = Unit {0}
 IsIndexed (held.BeforeBlocks xs) = Unit {0}
 IsIndexed (held.InBlock xs b) = Unit {0}
 
--- the line can come next, and then this was read
+-- The line can come next, and then this was read.
 pub record Reaches (s : State) (l : Line) (t : State) : Type 0 where
   pub form : Form
   pub is_line : IsLine l form
   pub takes : Takes s form
   pub reached : t ≡ after s form
 
--- what is read of a line with an LF
+-- What is read of a line with an LF.
 abbrev pub LineRead : State → (text : List ℕ) → Result Held Stop → Type 0
 LineRead s text (Ok t) = Reaches s (ended text) (state_of t) × IsIndexed t
 LineRead s text (Err (Code code)) = IsLeast (Stands s (ended text)) code
 LineRead s text (Err Memory) = Unit {0}
 
--- what is read of a line of a form for its position
+-- What is read of a line of a form for its position.
 abbrev pub FormRead : State → Form → Result Held Stop → Type 0
 FormRead s f (Ok t) = Takes s f × (state_of t ≡ after s f) × IsIndexed t
 FormRead s f (Err (Code code)) = IsLeast (IsWrong s f) code
 FormRead s f (Err Memory) = Unit {0}
 
--- a change is of the variable k, which comes behind those that changed, and has as many digits as its width
+-- A change is of the variable k, which comes behind those that changed, and has as many digits as its width.
 pub record IsPlaced (xs : List Variable) (o : OpenBlock) (digits id : List ℕ) (k : ℕ) : Type 0 where
   pub within : k < length xs
   pub is : id ≡ identifier k
   pub later : o.next ≤ k
   pub sized : length digits ≡ width_at xs k
 
--- variable k has this number, and the next can change
+-- Variable k has this number, and the next can change.
 abbrev pub with_number : OpenBlock → (k number : ℕ) → OpenBlock
 with_number o k number = record { before = o.before; now = set o.now k (Some number); next = k + 1 }

@@ -6,7 +6,7 @@ use Rattle.sap_maps.specs.Ranges.{IsWidth}
 use Rattle.sap_net.specs.Names.{is_name, AreDistinct}
 use Rattle.sap_wave.specs.declared.variable.Variable.{Variable}
 
--- the variables in order, and the number of each after each block, block 0 first
+-- The variables in order, and the number of each after each block, block 0 first.
 pub record Wave : Type 0 where
   pub variables : List Variable
   pub blocks : List (List ℕ)
@@ -15,17 +15,18 @@ pub record Wave : Type 0 where
 abbrev pub names_of : List Variable → List Name
 names_of xs = map (λ x. x.name) xs
 
--- variables that can be declared
+-- Variables that can be declared.
 pub record AreVariables (xs : List Variable) : Type 0 where
   pub named : AllByRecursion (λ x. is_name x.name ≡ true) xs
   pub sized : AllByRecursion (λ x. IsWidth x.width) xs
   pub distinct : AreDistinct (names_of xs)
 
--- one number for each variable, within its width
+-- One number for each variable, within its width.
 abbrev pub NumbersFit : List Variable → List ℕ → Type 0
 NumbersFit = AllZip (λ (x : Variable) (n : ℕ). n < 2 ^ x.width)
 
--- a wave that a dump can tell: variables that can be declared, a block or more, and in each a number for each variable, within its width
+-- A wave that a dump can tell: variables that can be declared, a block or more, and in each a number for each variable,
+-- within its width.
 pub record IsFit (w : Wave) : Type 0 where
   pub variables : AreVariables w.variables
   pub begun : 1 ≤ length w.blocks

@@ -6,11 +6,11 @@ use Rattle.sap_wave.specs.Examples.{of_width, wave}
 use Rattle.sap_wave.specs.Waves.{Wave}
 use Rattle.sap_wave_rows.specs.Rows.{rows_of_wave}
 
--- two registers with their tags, one cycle
+-- Two registers with their tags, one cycle.
 abbrev pub Row : Type 0
 Row = rows_of_wave low_high wave ≡ line (codes "cycle 1: x=2@low y=1@low")
 
--- `t_x` hasn't the width of tags, and `v_y` has no tag
+-- `t_x` hasn't the width of tags, and `v_y` has no tag.
 abbrev pub untagged : Wave
 untagged =
     record {
@@ -22,6 +22,6 @@ untagged =
 abbrev pub NothingShown : Type 0
 NothingShown = rows_of_wave low_high untagged ≡ line (codes "cycle 1:")
 
--- block 0 alone has no row
+-- Block 0 alone has no row.
 abbrev pub NoCycle : Type 0
 NoCycle = rows_of_wave low_high (record { variables = wave.variables; blocks = (1 ∷ 0 ∷ 2 ∷ 0 ∷ []) ∷ [] }) ≡ []

@@ -5,7 +5,7 @@ use Rattle.sap_maps.specs.Maps.{Name}
 use Rattle.sap_stim.specs.Rows.{AreLevelTexts, HoldsRows}
 use Rattle.sap_wave_rows.specs.declared.rows.Held.{Held}
 
--- the labels of these names, texts of levels, a number and a tag for each name, and room for any row
+-- The labels of these names, texts of levels, a number and a tag for each name, and room for any row.
 pub record IsHeld (ls : Levels) (names : List Name) (h : Held) : Type 0 where
   pub labels : h.labels.items ≡ names
   pub levels : AreLevelTexts ls h.levels.items

@@ -14,22 +14,25 @@ use Rattle.sap_wave.specs.Runs.{run_dump, run_wave}
 use Rattle.sap_wave.specs.Waves.{Wave}
 use Rattle.sap_wave_rows.specs.Rows.{rows_of_wave}
 
--- the rows of a netlist's cycles, counted from 1
+-- The rows of a netlist's cycles, counted from 1.
 abbrev pub rows_of_cycles : Levels → Net → List Valuation → List ℕ
 rows_of_cycles ls n vs = rows_from ls (shown_registers ls n) 1 (map (observed n) vs)
 
--- a run as a wave has the rows of the run
+-- A run as a wave has the rows of the run.
 abbrev pub RowsOfRuns : Type 0
 RowsOfRuns = (ls : Levels) (n : Net) (vs : List Valuation) → rows_of_wave ls (run_wave n vs) ≡ rows_of_cycles ls n vs
 
--- and so has what the dump of a run reads as
+-- And so has what the dump of a run reads as.
 abbrev pub RowsOfDumps : Type 0
 RowsOfDumps =
-    (ls : Levels) (n : Net) (xss : List (List ℕ)) (vs : List Valuation) (w : Wave) → IsNetlist n → IsRun n xss vs → IsReading (run_dump n vs) w
+    (ls : Levels) (n : Net) (xss : List (List ℕ)) (vs : List Valuation) (w : Wave) → IsNetlist n
+    → IsRun n xss vs → IsReading (run_dump n vs) w
     → rows_of_wave ls w ≡ rows_of_cycles ls n vs
 
--- they are what the netlist gives on a stimulus, where the run is on its lines before the first that is refused
+-- They are what the netlist gives on a stimulus, where the run is on its lines before the first that is refused.
 abbrev pub RowsOfStimuli : Type 0
 RowsOfStimuli =
-    (ls : Levels) (n : Net) (bytes : List ℕ) (rows : Rows) (vs : List Valuation) (w : Wave) → IsNetlist n → IsSimulated ls n bytes rows
-    → IsRunOn n (numbers_of ls n) (read_for ls n bytes).stream vs → IsReading (run_dump n vs) w → rows_of_wave ls w ≡ rows.text
+    (ls : Levels) (n : Net) (bytes : List ℕ) (rows : Rows) (vs : List Valuation) (w : Wave)
+    → IsNetlist n → IsSimulated ls n bytes rows
+    → IsRunOn n (numbers_of ls n) (read_for ls n bytes).stream vs → IsReading (run_dump n vs) w
+    → rows_of_wave ls w ≡ rows.text

@@ -8,7 +8,7 @@ use Rattle.sap_wave_rows.specs.Rows.{shown_variables}
 use Rattle.sap_wave_rows.specs.declared.rows.Held.{Held}
 use Rattle.sap_wave_rows.specs.declared.shown.Shown.{Shown}
 
--- the row that was made last, the text of those still to come, and how many these are
+-- The row that was made last, the text of those still to come, and how many these are.
 pub record RowsToCome : Type 0 where
   pub made : List ℕ
   pub text : List ℕ

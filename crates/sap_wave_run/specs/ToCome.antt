@@ -16,14 +16,16 @@ use Rattle.sap_wave.specs.Dumps.{blocks_from}
 use Rattle.sap_wave.specs.Lines.{text_of}
 use Rattle.sap_wave.specs.Runs.{numbers_after, variables_of}
 
--- the runner shows a cycle, or none yet; these are the netlist's cycles behind it
-pub record GoesOn (numbers : Net → List Given → List ℕ) (r : Running) (ahead : List (List Given)) (run : List Valuation) : Type 0 where
+-- The runner shows a cycle, or none yet; these are the netlist's cycles behind it.
+pub record GoesOn (numbers : Net → List Given → List ℕ) (r : Running) (ahead : List (List Given))
+    (run : List Valuation) : Type 0 where
   pub before : Option Valuation
   pub shows : Shows r before
   pub is_run : IsRunAfter r.net before (map (numbers r.net) ahead) run
 
 -- A simulation and the dump of its netlist so far, whose variables have these places, can go on with these lines.
-pub record CanGoOn (ls : Levels) (s : Stepped Plan) (d : Dumping) (places : List ℕ) (ahead : List (List Given)) : Type 0 where
+pub record CanGoOn (ls : Levels) (s : Stepped Plan) (d : Dumping) (places : List ℕ)
+    (ahead : List (List Given)) : Type 0 where
   pub planned : IsPlanned ls s
   pub fits : StreamFits ls s.fields ahead
   pub variables : d.variables ≡ variables_of s.runner.net
@@ -31,7 +33,8 @@ pub record CanGoOn (ls : Levels) (s : Stepped Plan) (d : Dumping) (places : List
   pub few : d.count + length ahead ≤ 2 ^ 48
 
 -- The text is that of the blocks of the cycles on these lines.
-pub record IsToCome (ls : Levels) (s : Stepped Plan) (d : Dumping) (places : List ℕ) (ahead : List (List Given)) (text : List ℕ) : Type 0 where
+pub record IsToCome (ls : Levels) (s : Stepped Plan) (d : Dumping) (places : List ℕ)
+    (ahead : List (List Given)) (text : List ℕ) : Type 0 where
   pub can : CanGoOn ls s d places ahead
   pub run : List Valuation
   pub goes_on : GoesOn (numbers_of ls) s.runner ahead run

@@ -12,15 +12,17 @@ use Rattle.sap_link.specs.Systems.{Wire, WiresFit}
 use Rattle.sap_link.specs.Designs.{linked}
 use Rattle.sap_wiring.specs.Wiring.{names_in, PartsNamed, AreWiresOf}
 
--- texts stand for at most one list of wires
+-- Texts stand for at most one list of wires.
 abbrev pub OneWiring : Type 0
-OneWiring = (u : Surroundings) → PartsNamed u → (texts : List WireText) (one other : List Wire) → AreWiresOf u texts one → AreWiresOf u texts other → one ≡ other
+OneWiring = (u : Surroundings) → PartsNamed u → (texts : List WireText) (one other : List Wire)
+    → AreWiresOf u texts one → AreWiresOf u texts other → one ≡ other
 
--- parts with the names that a system file gives them have names that they may have
+-- Parts with the names that a system file gives them have names that they may have.
 abbrev pub FileNamesServe : Type 0
-FileNamesServe = (parts : List Part) (u : Surroundings) → KeepsParts parts → names_in u ≡ part_names parts → PartsNamed u
+FileNamesServe = (parts : List Part) (u : Surroundings) → KeepsParts parts
+    → names_in u ≡ part_names parts → PartsNamed u
 
--- the parts declare what these designs do, one for each, and the levels are those of a lattice
+-- The parts declare what these designs do, one for each, and the levels are those of a lattice.
 pub record AreOfDesigns (ls : Levels) (designs : List DesignTree) (u : Surroundings) : Type 0 where
   pub parts : AllZip (λ (p : NamedPart) (d : DesignTree). p.entities ≡ entities_of d) u.parts designs
   pub levels : u.levels ≡ ls.names
@@ -29,4 +31,5 @@ pub record AreOfDesigns (ls : Levels) (designs : List DesignTree) (u : Surroundi
 abbrev pub WiresOfTextsFit : Type 0
 WiresOfTextsFit =
     (ls : Levels) (designs : List DesignTree) (u : Surroundings) → AreOfDesigns ls designs u
-    → (texts : List WireText) (wires : List Wire) → KeepsWires u texts → AreWiresOf u texts wires → WiresFit (linked ls designs wires)
+    → (texts : List WireText) (wires : List Wire) → KeepsWires u texts → AreWiresOf u texts wires
+    → WiresFit (linked ls designs wires)

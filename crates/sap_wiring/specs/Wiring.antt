@@ -18,7 +18,7 @@ use Rattle.sap_wiring.specs.declared.surroundings.Surroundings as code
 abbrev pub named_part : PartNames → NamedPart
 named_part p = record { name = p.name.now; entities = p.names.now }
 
--- what the code holds wires against
+-- What the code holds wires against.
 abbrev pub seen : code.Surroundings → Surroundings
 seen around = record { parts = map named_part around.parts.now; levels = around.lattice.now.names }
 
@@ -26,33 +26,33 @@ seen around = record { parts = map named_part around.parts.now; levels = around.
 abbrev pub names_in : Surroundings → List (List ℕ)
 names_in u = map (λ (p : NamedPart). p.name) u.parts
 
--- each part has a name that it may have at its place
+-- Each part has a name that it may have at its place.
 abbrev pub PartsNamed : Surroundings → Type 0
 PartsNamed u = (k : ℕ) → k < length u.parts → ¬ BadPartName (names_in u) k
 
--- the text names the entity of this number in the part of this number, which is declared so
+-- The text names the entity of this number in the part of this number, which is declared so.
 pub record IsEndpoint (u : Surroundings) (text : List ℕ) (declared : Declared) (e : Endpoint) : Type 0 where
   pub entity : List ℕ
   pub names : Names u text e.part entity declared
   pub number : number_of names.part.entities entity ≡ Some e.entity
 
--- the level of a wire without a third text, and of one with it
+-- The level of a wire without a third text, and of one with it.
 abbrev pub IsLevelOf : Surroundings → Option (List ℕ) → Option ℕ → Type 0
 IsLevelOf u None level = level ≡ None
 IsLevelOf u (Some name) level = (t : ℕ) × (level_named u.levels name ≡ Some t) × (level ≡ Some t)
 
--- It leads from the register that the first text names to the input, as wide, that the second names, through the level of
--- the third.
+-- It leads from the register that the first text names to the input, as wide, that the second names, through the level
+-- of the third.
 pub record IsWireOf (u : Surroundings) (text : WireText) (w : Wire) : Type 0 where
   pub width : ℕ
   pub from : IsEndpoint u text.from (what.Register width) w.from
   pub to : IsEndpoint u text.to (what.Input width) w.to
   pub level : IsLevelOf u text.level w.level
 
--- one for each text, in order
+-- One for each text, in order.
 abbrev pub AreWiresOf : Surroundings → List WireText → List Wire → Type 0
 AreWiresOf u texts wires = AllZip (IsWireOf u) texts wires
 
--- the text of an input is among those of inputs that are fed
+-- The text of an input is among those of inputs that are fed.
 abbrev pub is_fed : List (Vec ℕ Global) → List ℕ → Bool
 is_fed fed name = list_any (λ (key : Vec ℕ Global). bytes_eq name key.items) fed

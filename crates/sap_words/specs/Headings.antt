@@ -3,7 +3,7 @@ use Rattle.std.specs.Prelude.{ℕ, List, map}
 use Rattle.std.specs.Borrow.{Bor}
 use Rattle.sap_words.specs.Words.{Row}
 
--- a name, and the names of the operands
+-- A name, and the names of the operands.
 abbrev pub Heading : Type 0
 Heading = Bor (List ℕ) × Bor (List (Bor (List ℕ)))
 

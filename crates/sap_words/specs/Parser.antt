@@ -4,19 +4,19 @@ use Rattle.clap.specs.Words.{App, Rule, Shape, new_rule}
 use Rattle.clap.specs.Simple.{new_shape}
 use Rattle.sap_words.specs.Words.{Row, commands}
 
--- an operand, by its name
+-- An operand, by its name.
 abbrev pub operand : List ℕ → Rule
 operand id = record (new_rule id) { required = true }
 
--- a command with its operands
+-- A command with its operands.
 abbrev pub command : (name : List ℕ) → (operands : List (List ℕ)) → Shape
 command name operands = record (new_shape name) { rules = map operand operands }
 
--- it alone
+-- It alone.
 abbrev pub alone : Shape → App
 alone s = record { top = s; subs = [] }
 
--- no option, no call for help, and no command yet
+-- No option, no call for help, and no command yet.
 abbrev pub bare : App
 bare = alone (record (new_shape (codes "sapper")) {
   no_binary_name = true;
@@ -24,7 +24,7 @@ bare = alone (record (new_shape (codes "sapper")) {
   disable_help_subcommand = true;
 })
 
--- with each command of the table
+-- With each command of the table.
 abbrev pub parser : App
 parser = record {
   top = record bare.top { is_leaf = false };

@@ -23,9 +23,10 @@ pub data Words : Type 0 where
   asm : (first second : List ℕ) (n : ℕ) → Words
   cpu : (first second : List ℕ) (n : ℕ) → Words
 
--- the command is `twin`
+-- The command is `twin`.
 abbrev pub IsTwin : Option Words → Type 0
-IsTwin c = (lattice : List ℕ) × (design : List ℕ) × (first : List ℕ) × (second : List ℕ) × (level : List ℕ) × (c ≡ Some (twin lattice design first second level))
+IsTwin c = (lattice : List ℕ) × (design : List ℕ) × (first : List ℕ) × (second : List ℕ)
+    × (level : List ℕ) × (c ≡ Some (twin lattice design first second level))
 
 -- ---- the table
 
@@ -90,7 +91,8 @@ is_run_number n = nat_le 1 n && nat_le n 1000
 -- The number that a word spells.
 abbrev pub number_of : List ℕ → Option ℕ
 number_of text =
-    if are_few_digits text then (if is_run_number (digits_value 10 text) then Some (digits_value 10 text) else None) else None
+    if are_few_digits text then (if is_run_number (digits_value 10 text) then Some (digits_value 10 text) else None)
+    else None
 
 -- What a word gives for an operand: the word, or its number.
 abbrev pub value_of : (is_number : Bool) → (word : List ℕ) → Option (Value is_number)
@@ -102,7 +104,8 @@ abbrev pub made : (operands : List (List ℕ)) → Maker operands → (words : L
 made [] make [] = Some make
 made [] make (word ∷ words) = None
 made (operand ∷ operands) make [] = None
-made (operand ∷ operands) make (word ∷ words) = option_and_then (λ v. made operands (make v) words) (value_of (is_number operand) word)
+made (operand ∷ operands) make (word ∷ words) =
+    option_and_then (λ v. made operands (make v) words) (value_of (is_number operand) word)
 
 -- The row of a command, by its name.
 abbrev pub row_named : (name : List ℕ) → Option Row

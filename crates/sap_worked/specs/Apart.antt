@@ -8,19 +8,19 @@ use Rattle.sap_worked.specs.Ground.{register_x, register_y, memory_m, memory_k, 
 abbrev pub Apart : Store → Store → Type 0
 Apart s t = StatesAgree ground left s t → ⊥
 
--- Registers: the number, at a level at or below left in both; ..
+-- Stores with a different number of a register, at a level at or below left in both, don't agree.
 abbrev pub RegisterNumber : Type 0
 RegisterNumber = Apart (register_has register_x 5 left calm) (register_has register_x 6 left calm)
 
--- .. the level, at or below left in both; ..
+-- Stores with a different level of a register, at or below left in both, don't agree.
 abbrev pub RegisterLevel : Type 0
 RegisterLevel = Apart (register_has register_x 5 low calm) (register_has register_x 5 left calm)
 
--- .. the level, at or below left in one alone.
+-- Stores with a register whose level is at or below left in one alone don't agree.
 abbrev pub RegisterSeenInOne : Type 0
 RegisterSeenInOne = Apart (register_has register_x 5 left calm) (register_has register_x 5 right calm)
 
--- A cell of an enforced memory: the number in the part of the cycle's start, and in that of the next.
+-- Stores with a different number of a cell of an enforced memory don't agree.
 abbrev pub CellNumber : Type 0
 CellNumber = Apart calm (slot_has (start memory_k 1) 5 left calm)
 
@@ -28,7 +28,7 @@ CellNumber = Apart calm (slot_has (start memory_k 1) 5 left calm)
 abbrev pub NextCellNumber : Type 0
 NextCellNumber = Apart calm (slot_has (next memory_k 1) 5 left calm)
 
--- A dynamic memory: the number of one cell, in each part; ..
+-- Stores with a different number of one cell of a dynamic memory don't agree.
 abbrev pub MemoryNumber : Type 0
 MemoryNumber = Apart calm (put_number (start memory_m 1) 5 calm)
 
@@ -36,7 +36,7 @@ MemoryNumber = Apart calm (put_number (start memory_m 1) 5 calm)
 abbrev pub NextMemoryNumber : Type 0
 NextMemoryNumber = Apart calm (put_number (next memory_m 1) 5 calm)
 
--- .. the one level, at or below left in both, in each part; ..
+-- Stores with a different level of a dynamic memory, at or below left in both, don't agree.
 abbrev pub MemoryLevel : Type 0
 MemoryLevel = Apart calm (put_level ground_world (start_whole memory_m) left calm)
 
@@ -44,23 +44,26 @@ MemoryLevel = Apart calm (put_level ground_world (start_whole memory_m) left cal
 abbrev pub NextMemoryLevel : Type 0
 NextMemoryLevel = Apart calm (put_level ground_world (next_whole memory_m) left calm)
 
--- .. the one level, at or below left in one alone.
+-- Stores with a dynamic memory whose level is at or below left in one alone don't agree.
 abbrev pub MemorySeenInOne : Type 0
 MemorySeenInOne = Apart calm (cell_has memory_m 0 0 right calm)
 
--- Levels under an authority at or below left, though they are at or below left in neither: of a register, ..
+-- Stores with a different level of an enforced register don't agree, where its authority is at or below left and the
+-- level is so in neither.
 abbrev pub EnforcedRegisterLevel : Type 0
 EnforcedRegisterLevel = Apart (level_is register_y right calm) (level_is register_y high calm)
 
--- .. of a cell, in each part, ..
+-- Stores with a different level of such a cell don't agree.
 abbrev pub EnforcedCellLevel : Type 0
-EnforcedCellLevel = Apart (cell_has memory_k 0 0 right calm) (slot_has (start memory_k 0) 0 high (cell_has memory_k 0 0 right calm))
+EnforcedCellLevel = Apart (cell_has memory_k 0 0 right calm)
+    (slot_has (start memory_k 0) 0 high (cell_has memory_k 0 0 right calm))
 
 -- Stores with a different next level of an enforced memory's cell don't agree.
 abbrev pub NextEnforcedCellLevel : Type 0
-NextEnforcedCellLevel = Apart (cell_has memory_k 0 0 right calm) (slot_has (next memory_k 0) 0 high (cell_has memory_k 0 0 right calm))
+NextEnforcedCellLevel = Apart (cell_has memory_k 0 0 right calm)
+    (slot_has (next memory_k 0) 0 high (cell_has memory_k 0 0 right calm))
 
--- .. of Q, which isn't active, and of D, where it is P's current child.
+-- Stores with a different level of such a state don't agree, though the state isn't active.
 abbrev pub InactiveStateLevel : Type 0
 InactiveStateLevel = Apart (level_is state_q right calm) (level_is state_q high calm)
 
@@ -68,7 +71,7 @@ InactiveStateLevel = Apart (level_is state_q right calm) (level_is state_q high 
 abbrev pub ActiveStateLevel : Type 0
 ActiveStateLevel = Apart (child_is state_p 1 calm) (level_is state_d high (child_is state_p 1 calm))
 
--- Active paths: the current child, P or Q, each at or below left; and one further down, F or G; ..
+-- Stores with a different current child of the root don't agree, where both are at or below left.
 abbrev pub OtherChild : Type 0
 OtherChild = Apart calm (child_is the_root 1 calm)
 
@@ -76,7 +79,7 @@ OtherChild = Apart calm (child_is the_root 1 calm)
 abbrev pub OtherChildBelow : Type 0
 OtherChildBelow = Apart calm (child_is state_c 1 calm)
 
--- .. its level, at or below left in both; and that of one further down; ..
+-- Stores with a different level of a current child, at or below left in both, don't agree.
 abbrev pub ChildLevel : Type 0
 ChildLevel = Apart calm (level_is state_c left calm)
 
@@ -84,10 +87,10 @@ ChildLevel = Apart calm (level_is state_c left calm)
 abbrev pub ChildLevelBelow : Type 0
 ChildLevelBelow = Apart calm (level_is state_f left calm)
 
--- .. its level, at or below left in one alone; and a child at low against another one at right.
+-- Stores with a current child whose level is at or below left in one alone don't agree.
 abbrev pub ChildSeenInOne : Type 0
 ChildSeenInOne = Apart calm (level_is state_c right calm)
 
--- Stores whose current children differ don't agree where one of the two is seen.
+-- Stores whose current children differ, one at low and the other at right, don't agree.
 abbrev pub OtherChildSeenInOne : Type 0
 OtherChildSeenInOne = Apart calm (child_is state_p 1 calm)

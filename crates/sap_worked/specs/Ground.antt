@@ -6,7 +6,7 @@ use Rattle.sap_meaning.specs.State.{first}
 use Rattle.sap_meaning.specs.Examples.{four_levels, an_input, a_register, held_register, a_memory, held_memory, a_state, held_state}
 use Rattle.sap_worked.specs.Rows.{left, right, high, low, register_under, memory_under, state_under, goes}
 
--- input a : 8; reg x : 8 dynamic; reg y : 8 enforced left; reg z : 8 enforced high under right;
+-- The text `input a : 8; reg x : 8 dynamic; reg y : 8 enforced left; reg z : 8 enforced high under right;
 -- mem m : 8[2] dynamic; mem k : 8[2] enforced left; mem h : 8[2] enforced high under right;
 -- state P enforced low {
 --   fall;
@@ -14,7 +14,7 @@ use Rattle.sap_worked.specs.Rows.{left, right, high, low, register_under, memory
 --   state D enforced right { goto E; }
 --   state E enforced high { goto C; }
 -- }
--- state Q enforced left { fall; state I dynamic { goto J; } state J enforced high under right { goto I; } }
+-- state Q enforced left { fall; state I dynamic { goto J; } state J enforced high under right { goto I; } }`.
 abbrev pub input_a : ℕ
 input_a = 0
 
@@ -93,7 +93,7 @@ ground_world = record {
   children = 0 ∷ 0 ∷ 0 ∷ 0 ∷ 0 ∷ 0 ∷ 0 ∷ 3 ∷ 2 ∷ 0 ∷ 0 ∷ 0 ∷ 0 ∷ 2 ∷ 0 ∷ 0 ∷ 2 ∷ [];
 }
 
--- a body that falls
+-- A body that falls.
 abbrev pub falls : (site : ℕ) → Block
 falls site = command_then (lone (fall_to_child site [])) end_block
 
@@ -103,18 +103,21 @@ ground = record {
   world = ground_world;
   states =
       and_node (state_node state_p (falls 1)
-      (and_node (state_node state_c (falls 0) (and_node (state_node state_f (goes 0 state_g) no_node) (and_node (state_node state_g (goes 0 state_f) no_node) no_node)))
+      (and_node (state_node state_c (falls 0) (and_node (state_node state_f (goes 0 state_g) no_node)
+      (and_node (state_node state_g (goes 0 state_f) no_node) no_node)))
       (and_node (state_node state_d (goes 2 state_e) no_node)
       (and_node (state_node state_e (goes 3 state_c) no_node) no_node))))
-      (and_node (state_node state_q (falls 4) (and_node (state_node state_i (goes 5 state_j) no_node) (and_node (state_node state_j (goes 6 state_i) no_node) no_node))) no_node);
+      (and_node (state_node state_q (falls 4) (and_node (state_node state_i (goes 5 state_j) no_node)
+      (and_node (state_node state_j (goes 6 state_i) no_node) no_node))) no_node);
   hang = [];
 }
 
--- The first state: P, C and F are active. It has x and m at low, y and k at left, z and h at high, all with the number 0.
+-- The first state: P, C and F are active. It has x and m at low, y and k at left, z and h at high, all with the number
+-- 0.
 abbrev pub calm : Store
 calm = first ground_world
 
--- a slot has that number and level
+-- A slot has that number and level.
 abbrev pub slot_has : Slot → (number level : ℕ) → Store → Store
 slot_has a n t s = put_level ground_world a t (put_number a n s)
 
@@ -122,7 +125,7 @@ slot_has a n t s = put_level ground_world a t (put_number a n s)
 abbrev pub register_has : (register number level : ℕ) → Store → Store
 register_has x n t s = slot_has (own x) n t s
 
--- so both parts of a cell
+-- So both parts of a cell.
 abbrev pub cell_has : (memory index number level : ℕ) → Store → Store
 cell_has m i n t s = slot_has (start m i) n t (slot_has (next m i) n t s)
 
@@ -130,6 +133,6 @@ cell_has m i n t s = slot_has (start m i) n t (slot_has (next m i) n t s)
 abbrev pub level_is : (entity level : ℕ) → Store → Store
 level_is x t s = put_level ground_world (own x) t s
 
--- the current child of a state, or of the root, is the one at that place
+-- The current child of a state, or of the root, is the one at that place.
 abbrev pub child_is : (parent place : ℕ) → Store → Store
 child_is p n s = put_child p n s

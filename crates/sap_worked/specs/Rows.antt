@@ -23,9 +23,16 @@ right = 2
 abbrev pub high : ℕ
 high = 3
 
--- enforced entities, with a level and the authority under which it may be changed
+-- Enforced entities, with a level and the authority under which it may be changed.
 abbrev pub register_under : (width level authority initial : ℕ) → Entity
-register_under u t a n = record { kind = register; width = u; dynamic = false; declared = t; authority = a; initial = n }
+register_under u t a n = record {
+  kind = register;
+  width = u;
+  dynamic = false;
+  declared = t;
+  authority = a;
+  initial = n;
+}
 
 -- An enforced memory under an authority.
 abbrev pub memory_under : (width depth level authority : ℕ) → Entity
@@ -35,11 +42,11 @@ memory_under u d t a = record { kind = memory d; width = u; dynamic = false; dec
 abbrev pub state_under : (place last level authority : ℕ) → Entity
 state_under n m t a = record { kind = state n m; width = 0; dynamic = false; declared = t; authority = a; initial = 0 }
 
--- x := n, where x has 8 bits
+-- The text `x := n`, where x has 8 bits.
 abbrev pub put : (site x n : ℕ) → Command
 put site x n = lone (assign site x (constant 8 n))
 
--- the list that is a goto alone
+-- The list that is a goto alone.
 abbrev pub goes : (site target : ℕ) → Block
 goes site target = command_then (lone (go_to site target)) end_block
 
@@ -74,6 +81,6 @@ seen_after w look a = record {
   refused = a.refused;
 }
 
--- a row a cycle, from the first state on
+-- A row a cycle, from the first state on.
 abbrev pub rows : Program → Look → List (List Tagged) → List Row
 rows p look stream = map (seen_after p.world look) (labelled_run p stream)

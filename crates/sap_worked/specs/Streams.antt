@@ -12,21 +12,22 @@ InputsApart a b = InputsAgree four_levels left a b → ⊥
 
 -- The first has equal numbers and levels at or below left; the second has a level at or below left in neither.
 abbrev pub InputsAlike : Type 0
-InputsAlike = InputsAgree four_levels left (at_level left 5 ∷ at_level right 6 ∷ []) (at_level left 5 ∷ at_level high 7 ∷ [])
+InputsAlike = InputsAgree four_levels left (at_level left 5 ∷ at_level right 6 ∷ [])
+    (at_level left 5 ∷ at_level high 7 ∷ [])
 
--- the number, at a level at or below left in both
+-- The number, at a level at or below left in both.
 abbrev pub InputNumber : Type 0
 InputNumber = InputsApart (at_level low 5 ∷ at_level left 5 ∷ []) (at_level low 5 ∷ at_level left 6 ∷ [])
 
--- the level, at or below left in both
+-- The level, at or below left in both.
 abbrev pub InputLevel : Type 0
 InputLevel = InputsApart (at_level low 5 ∷ []) (at_level left 5 ∷ [])
 
--- the level, at or below left in one alone
+-- The level, at or below left in one alone.
 abbrev pub InputSeenInOne : Type 0
 InputSeenInOne = InputsApart (at_level left 5 ∷ []) (at_level right 5 ∷ [])
 
--- an input too many, though its level isn't at or below left
+-- An input too many, though its level isn't at or below left.
 abbrev pub InputTooMany : Type 0
 InputTooMany = InputsApart (at_level low 5 ∷ []) (at_level low 5 ∷ at_level high 6 ∷ [])
 
@@ -34,21 +35,24 @@ InputTooMany = InputsApart (at_level low 5 ∷ []) (at_level low 5 ∷ at_level 
 abbrev pub StreamsApart : List (List Tagged) → List (List Tagged) → Type 0
 StreamsApart a b = StreamsAgree four_levels left a b → ⊥
 
--- in each cycle the inputs agree
+-- In each cycle the inputs agree.
 abbrev pub StreamsAlike : Type 0
-StreamsAlike = StreamsAgree four_levels left ((at_level low 5 ∷ []) ∷ (at_level right 6 ∷ []) ∷ []) ((at_level low 5 ∷ []) ∷ (at_level high 7 ∷ []) ∷ [])
+StreamsAlike = StreamsAgree four_levels left ((at_level low 5 ∷ []) ∷ (at_level right 6 ∷ []) ∷ [])
+    ((at_level low 5 ∷ []) ∷ (at_level high 7 ∷ []) ∷ [])
 
--- the second cycle's number
+-- The second cycle's number.
 abbrev pub LaterCycle : Type 0
-LaterCycle = StreamsApart ((at_level low 5 ∷ []) ∷ (at_level left 6 ∷ []) ∷ []) ((at_level low 5 ∷ []) ∷ (at_level left 7 ∷ []) ∷ [])
+LaterCycle = StreamsApart ((at_level low 5 ∷ []) ∷ (at_level left 6 ∷ []) ∷ [])
+    ((at_level low 5 ∷ []) ∷ (at_level left 7 ∷ []) ∷ [])
 
--- a cycle too many, though its input isn't at or below left
+-- A cycle too many, though its input isn't at or below left.
 abbrev pub CycleTooMany : Type 0
 CycleTooMany = StreamsApart ((at_level low 5 ∷ []) ∷ []) ((at_level low 5 ∷ []) ∷ (at_level high 6 ∷ []) ∷ [])
 
--- what is at or below left is the same, but comes a cycle later
+-- What is at or below left is the same, but comes a cycle later.
 abbrev pub CycleLater : Type 0
-CycleLater = StreamsApart ((at_level low 5 ∷ []) ∷ (at_level high 6 ∷ []) ∷ []) ((at_level high 6 ∷ []) ∷ (at_level low 5 ∷ []) ∷ [])
+CycleLater = StreamsApart ((at_level low 5 ∷ []) ∷ (at_level high 6 ∷ []) ∷ [])
+    ((at_level high 6 ∷ []) ∷ (at_level low 5 ∷ []) ∷ [])
 
 -- Two streams that agree at left, and not at right.
 pub record StreamsAgreeBelow : Type 0 where
@@ -62,21 +66,22 @@ RefusalsApart a b = RefusalsAgree four_levels left a b → ⊥
 -- Without those at right and high, both are site 1 at low and site 3 at left.
 abbrev pub RefusalsAlike : Type 0
 RefusalsAlike = RefusalsAgree four_levels left
-    (refused_at 1 low ∷ refused_at 2 right ∷ refused_at 3 left ∷ []) (refused_at 1 low ∷ refused_at 3 left ∷ refused_at 4 high ∷ [])
+    (refused_at 1 low ∷ refused_at 2 right ∷ refused_at 3 left ∷ [])
+    (refused_at 1 low ∷ refused_at 3 left ∷ refused_at 4 high ∷ [])
 
--- the site
+-- The site.
 abbrev pub RefusedSite : Type 0
 RefusedSite = RefusalsApart (refused_at 1 left ∷ []) (refused_at 2 left ∷ [])
 
--- the level, at or below left in both
+-- The level, at or below left in both.
 abbrev pub RefusedLevel : Type 0
 RefusedLevel = RefusalsApart (refused_at 1 low ∷ []) (refused_at 1 left ∷ [])
 
--- the level, at or below left in one alone
+-- The level, at or below left in one alone.
 abbrev pub RefusedSeenInOne : Type 0
 RefusedSeenInOne = RefusalsApart (refused_at 1 left ∷ []) (refused_at 1 right ∷ [])
 
--- one refusal more, at or below left
+-- One refusal more, at or below left.
 abbrev pub RefusedTooMany : Type 0
 RefusedTooMany = RefusalsApart (refused_at 1 low ∷ []) (refused_at 1 low ∷ refused_at 2 low ∷ [])
 

@@ -16,8 +16,10 @@ pub record ToldLine (line : List ℕ) (lost now : ℕ) (rose : Type 0) (t n : To
   pub room : n.room ≡ t.room
   pub full : rose → FullLines t n
 
+-- The desk tells that standard error gained this line, and that nothing else changed.
 pub record Tells (line : List ℕ) (before after : Moment) : Type 0 where
-  pub told : Between before.told after.told (ToldLine line before.lost after.lost ((after.lost ≢ before.lost) × before.sure))
+  pub told : Between before.told after.told
+      (ToldLine line before.lost after.lost ((after.lost ≢ before.lost) × before.sure))
   pub faults : after.faults ≡ before.faults
   pub lost : LostAtMostOne before.lost after.lost
   pub sure : before.sure → after.sure

@@ -60,7 +60,8 @@ pub record HasDesign (ls : Levels) (t : Told) (p : Part) (d : NamedDesign) : Typ
   pub has : Has t p.file (IsWellFormedText ls) d.design
 
 -- The files of a `link` are a lattice, a system, and for each part a well-formed design.
-pub record AreForLink (lattice system : List ℕ) (t : Told) (ls : Levels) (s : Listing) (designs : List NamedDesign) : Type 0 where
+pub record AreForLink (lattice system : List ℕ) (t : Told) (ls : Levels) (s : Listing)
+    (designs : List NamedDesign) : Type 0 where
   pub levels : Has t lattice IsLatticeFile ls
   pub lists : Has t system IsSystemOfFile s
   pub parts : AllZip (HasDesign ls t) s.parts designs
@@ -82,23 +83,29 @@ pub record HasNoDesign (lattice system : List ℕ) (t : Told) (ls : Levels) (s :
 pub record LinksExactly (lattice system out : List ℕ) (lost lost_now answer : ℕ) (t n : Told) : Type 0 where
   -- If it is done, the files are such, the wires break no rule, and what is written means the system.
   pub only : answer ≡ 0
-      → (ls : Levels) × (s : Listing) × (designs : List NamedDesign) × AreForLink lattice system t ls s designs × KeepsWires (surroundings ls designs) s.wires
+      → (ls : Levels) × (s : Listing) × (designs : List NamedDesign)
+      × AreForLink lattice system t ls s designs × KeepsWires (surroundings ls designs) s.wires
       × ((text : List ℕ) × (n.files out ≡ Some text) × MeansSystem ls designs s.wires text)
   -- If they are such and the wires break none, it is done, unless a call on the desk fails (6) or memory runs out
   -- (7).
-  pub always : (ls : Levels) (s : Listing) (designs : List NamedDesign) → AreForLink lattice system t ls s designs → KeepsWires (surroundings ls designs) s.wires
+  pub always : (ls : Levels) (s : Listing) (designs : List NamedDesign)
+      → AreForLink lattice system t ls s designs → KeepsWires (surroundings ls designs) s.wires
       → answer ≢ 6 → answer ≢ 7 → answer ≡ 0
   -- If SYSTEM is no system, it is refused as one (9), unless one of these two comes.
-  pub no_system : (ls : Levels) (bytes : List ℕ) → Has t lattice IsLatticeFile ls → t.files system ≡ Some bytes → ((s : Listing) → ¬ IsSystemOfFile bytes s)
+  pub no_system : (ls : Levels) (bytes : List ℕ) → Has t lattice IsLatticeFile ls
+      → t.files system ≡ Some bytes → ((s : Listing) → ¬ IsSystemOfFile bytes s)
       → answer ≢ 6 → answer ≢ 7 → answer ≡ 9
   -- If a part has a file that is no well-formed design, it is refused as a design (1).
-  pub no_design : (ls : Levels) (s : Listing) (p : Part) → HasNoDesign lattice system t ls s p → answer ≢ 6 → answer ≢ 7 → answer ≡ 1
+  pub no_design : (ls : Levels) (s : Listing) (p : Part) → HasNoDesign lattice system t ls s p
+      → answer ≢ 6 → answer ≢ 7 → answer ≡ 1
   -- If the wires break a rule, the system is refused (9), and the line tells the first.
-  pub wires : (ls : Levels) (s : Listing) (designs : List NamedDesign) (fault : LinkFault) → AreForLink lattice system t ls s designs
+  pub wires : (ls : Levels) (s : Listing) (designs : List NamedDesign) (fault : LinkFault)
+      → AreForLink lattice system t ls s designs
       → FirstLinkFault (surroundings ls designs) s.wires fault → answer ≢ 6 → answer ≢ 7
       → (answer ≡ 9) × Gained (line (codes "system: " ++ wire_text fault)) lost lost_now t n
 
 -- The words are those of a `link`.
 abbrev pub Links : (words : List (List ℕ)) → (lost lost_now answer : ℕ) → Told → Told → Type 0
 Links words lost lost_now answer t n =
-    (lattice system out : List ℕ) → command_of words ≡ Some (link lattice system out) → LinksExactly lattice system out lost lost_now answer t n
+    (lattice system out : List ℕ) → command_of words ≡ Some (link lattice system out)
+    → LinksExactly lattice system out lost lost_now answer t n

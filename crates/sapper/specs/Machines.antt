@@ -20,14 +20,18 @@ pub record WritesMachine (answer : ℕ) (t n : Told) : Type 0 where
   pub always : answer ≢ 6 → answer ≢ 7 → answer ≡ 0
 
 -- A command gives a text of two files, or the text of its refusal.
-pub record GivesOfBoth (given : (x y : List ℕ) → Result (List ℕ) (List ℕ)) (first second : List ℕ) (lost lost_now answer : ℕ) (t n : Told) : Type 0 where
+pub record GivesOfBoth (given : (x y : List ℕ) → Result (List ℕ) (List ℕ)) (first second : List ℕ)
+    (lost lost_now answer : ℕ) (t n : Told) : Type 0 where
   -- If it is done, both files are there, and standard output gained what they give.
   pub only : answer ≡ 0
-      → (x : List ℕ) × (y : List ℕ) × (text : List ℕ) × (t.files first ≡ Some x) × (t.files second ≡ Some y) × (given x y ≡ Ok text) × (n.written 1 ≡ t.written 1 ++ text)
+      → (x : List ℕ) × (y : List ℕ) × (text : List ℕ) × (t.files first ≡ Some x)
+      × (t.files second ≡ Some y) × (given x y ≡ Ok text) × (n.written 1 ≡ t.written 1 ++ text)
   -- If they are there and give a text, it is done, unless one of these two comes.
-  pub always : (x y text : List ℕ) → t.files first ≡ Some x → t.files second ≡ Some y → given x y ≡ Ok text → answer ≢ 6 → answer ≢ 7 → answer ≡ 0
+  pub always : (x y text : List ℕ) → t.files first ≡ Some x → t.files second ≡ Some y
+      → given x y ≡ Ok text → answer ≢ 6 → answer ≢ 7 → answer ≡ 0
   -- If they give a refusal, that is reported (11).
-  pub refuses : (x y why : List ℕ) → t.files first ≡ Some x → t.files second ≡ Some y → given x y ≡ Err why → answer ≢ 6 → answer ≢ 7
+  pub refuses : (x y why : List ℕ) → t.files first ≡ Some x → t.files second ≡ Some y
+      → given x y ≡ Err why → answer ≢ 6 → answer ≢ 7
       → (answer ≡ 11) × Gained (line why) lost lost_now t n
 
 -- The files of a `run` are a lattice of the four levels, the design that `machine` writes, and the stimulus that `asm`

@@ -33,16 +33,20 @@ pub record TaintsExactly (lattice verilog out : List ℕ) (lost lost_now answer 
       → (ls : Levels) × (net : Net) × Has t lattice IsLatticeFile ls × Has t verilog IsModule net × HasRoomForTags net
       × ((text : List ℕ) × (n.files out ≡ Some text) × TellsTaint ls net text)
   -- If they are so, it is done, unless a call on the desk fails (6) or memory runs out (7).
-  pub always : (ls : Levels) (net : Net) → Has t lattice IsLatticeFile ls → Has t verilog IsModule net → HasRoomForTags net → answer ≢ 6 → answer ≢ 7 → answer ≡ 0
+  pub always : (ls : Levels) (net : Net) → Has t lattice IsLatticeFile ls → Has t verilog IsModule net
+      → HasRoomForTags net → answer ≢ 6 → answer ≢ 7 → answer ≡ 0
   -- If VERILOG is no module, it is refused as one (5), unless one of these two comes.
-  pub no_module : (ls : Levels) (text : List ℕ) → Has t lattice IsLatticeFile ls → t.files verilog ≡ Some text → ((net : Net) → ¬ (IsModule text net))
+  pub no_module : (ls : Levels) (text : List ℕ) → Has t lattice IsLatticeFile ls
+      → t.files verilog ≡ Some text → ((net : Net) → ¬ (IsModule text net))
       → answer ≢ 6 → answer ≢ 7 → answer ≡ 5
   -- If it is one with a name whose tag has none of its own, it is refused too (5), and the line tells the first
   -- such name.
-  pub clashes : (ls : Levels) (net : Net) (x : List ℕ) → Has t lattice IsLatticeFile ls → Has t verilog IsModule net → IsClash net x → answer ≢ 6 → answer ≢ 7
+  pub clashes : (ls : Levels) (net : Net) (x : List ℕ) → Has t lattice IsLatticeFile ls
+      → Has t verilog IsModule net → IsClash net x → answer ≢ 6 → answer ≢ 7
       → (answer ≡ 5) × Gained (line (codes "module: " ++ taint_text (Clash x))) lost lost_now t n
 
 -- The words are those of a `taint`.
 abbrev pub Taints : (words : List (List ℕ)) → (lost lost_now answer : ℕ) → Told → Told → Type 0
 Taints words lost lost_now answer t n =
-    (lattice verilog out : List ℕ) → command_of words ≡ Some (taint lattice verilog out) → TaintsExactly lattice verilog out lost lost_now answer t n
+    (lattice verilog out : List ℕ) → command_of words ≡ Some (taint lattice verilog out)
+    → TaintsExactly lattice verilog out lost lost_now answer t n

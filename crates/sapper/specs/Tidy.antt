@@ -30,10 +30,12 @@ pub record IsWellMade (shown : Net → List Name) (most : ℕ) (text : List ℕ)
 
 -- A text is that of a module that is well made for designs and the wires between them that texts stand for: the ports
 -- and the wires that stand for fed inputs are shown.
-pub record IsWellMadeSystem (ls : Levels) (designs : List NamedDesign) (texts : List WireText) (text : List ℕ) : Type 0 where
+pub record IsWellMadeSystem (ls : Levels) (designs : List NamedDesign) (texts : List WireText)
+    (text : List ℕ) : Type 0 where
   pub wires : List Wire
   pub of_texts : AreWiresOf (surroundings ls designs) texts wires
-  pub made : IsWellMade (λ net. shown_names (named_system ls designs wires)) (most_items_of ls designs + 5 * length texts) text
+  pub made : IsWellMade (λ net. shown_names (named_system ls designs wires))
+      (most_items_of ls designs + 5 * length texts) text
 
 -- A `compile` or a `link` that is done wrote a module that is well made for what its files have.
 pub record WritesWellMade (words : List (List ℕ)) (answer : ℕ) (t n : Told) : Type 0 where

@@ -33,7 +33,8 @@ pub record TellsRun (ls : Levels) (net : Net) (stream : List (List Tagged)) (tex
   pub no_other : (other : Wave) → IsReading text other → other ≡ run_wave net run
 
 -- The three files of a `wave` are a lattice, a module, and a stimulus for it whose every line is taken.
-pub record AreForRun (lattice verilog stimulus : List ℕ) (t : Told) (ls : Levels) (net : Net) (stream : List (List Tagged)) : Type 0 where
+pub record AreForRun (lattice verilog stimulus : List ℕ) (t : Told) (ls : Levels) (net : Net)
+    (stream : List (List Tagged)) : Type 0 where
   pub levels : Has t lattice IsLatticeFile ls
   pub is_module : Has t verilog IsModule net
   pub lines : Has t stimulus (IsModuleStream ls net) stream
@@ -45,38 +46,48 @@ pub record WavesExactly (lattice verilog stimulus out : List ℕ) (answer : ℕ)
       → (ls : Levels) × (net : Net) × (stream : List (List Tagged)) × AreForRun lattice verilog stimulus t ls net stream
       × ((text : List ℕ) × (n.files out ≡ Some text) × TellsRun ls net stream text)
   -- If they are such, it is done, unless a call on the desk fails (6) or memory runs out (7).
-  pub always : (ls : Levels) (net : Net) (stream : List (List Tagged)) → AreForRun lattice verilog stimulus t ls net stream → answer ≢ 6 → answer ≢ 7 → answer ≡ 0
+  pub always : (ls : Levels) (net : Net) (stream : List (List Tagged))
+      → AreForRun lattice verilog stimulus t ls net stream → answer ≢ 6 → answer ≢ 7 → answer ≡ 0
   -- If VERILOG is no module, it is refused as one (5), unless one of these two comes.
-  pub no_module : (ls : Levels) (text : List ℕ) → Has t lattice IsLatticeFile ls → t.files verilog ≡ Some text → ((net : Net) → ¬ (IsModule text net))
+  pub no_module : (ls : Levels) (text : List ℕ) → Has t lattice IsLatticeFile ls
+      → t.files verilog ≡ Some text → ((net : Net) → ¬ (IsModule text net))
       → answer ≢ 6 → answer ≢ 7 → answer ≡ 5
   -- If a line of STIM is refused, that is as a stimulus (4).
-  pub no_stimulus : (ls : Levels) (net : Net) (bytes : List ℕ) → Has t lattice IsLatticeFile ls → Has t verilog IsModule net → t.files stimulus ≡ Some bytes
+  pub no_stimulus : (ls : Levels) (net : Net) (bytes : List ℕ) → Has t lattice IsLatticeFile ls
+      → Has t verilog IsModule net → t.files stimulus ≡ Some bytes
       → ((stream : List (List Tagged)) → ¬ (IsModuleStream ls net bytes stream)) → answer ≢ 6 → answer ≢ 7 → answer ≡ 4
 
 -- An `unwave` answers this on a desk that tells these contents before and after it, exactly where its files are so.
 pub record UnwavesExactly (lattice dump : List ℕ) (lost lost_now answer : ℕ) (t n : Told) : Type 0 where
   -- If it is done, WAVE has a reading, of which standard output gained the rows.
   pub only : answer ≡ 0
-      → (ls : Levels) × (w : Wave) × Has t lattice IsLatticeFile ls × Has t dump IsReading w × (n.written 1 ≡ t.written 1 ++ rows_of_wave ls w)
+      → (ls : Levels) × (w : Wave) × Has t lattice IsLatticeFile ls × Has t dump IsReading w
+      × (n.written 1 ≡ t.written 1 ++ rows_of_wave ls w)
   -- If it has one, it is done, unless a call on the desk fails (6) or memory runs out (7).
-  pub always : (ls : Levels) (w : Wave) → Has t lattice IsLatticeFile ls → Has t dump IsReading w → answer ≢ 6 → answer ≢ 7 → answer ≡ 0
+  pub always : (ls : Levels) (w : Wave) → Has t lattice IsLatticeFile ls → Has t dump IsReading w
+      → answer ≢ 6 → answer ≢ 7 → answer ≡ 0
   -- If it has none, it is refused (10), and the line tells its first fault, unless one of these two comes.
-  pub refuses : (ls : Levels) (bytes : List ℕ) → Has t lattice IsLatticeFile ls → t.files dump ≡ Some bytes → ((w : Wave) → ¬ (IsReading bytes w))
+  pub refuses : (ls : Levels) (bytes : List ℕ) → Has t lattice IsLatticeFile ls
+      → t.files dump ≡ Some bytes → ((w : Wave) → ¬ (IsReading bytes w))
       → answer ≢ 6 → answer ≢ 7
-      → (answer ≡ 10) × ((number : ℕ) × (code : WaveCode) × IsFault bytes number code × Gained (line (codes "wave: " ++ wave_text (Rule code number))) lost lost_now t n)
+      → (answer ≡ 10) × ((number : ℕ) × (code : WaveCode) × IsFault bytes number code
+      × Gained (line (codes "wave: " ++ wave_text (Rule code number))) lost lost_now t n)
   -- If WAVE tells a module's run on a stimulus, as what a `wave` wrote does, standard output gained what `sim`
   -- writes of them.
   pub gives_back : answer ≡ 0
-      → (ls : Levels) (net : Net) (bytes text : List ℕ) (stream : List (List Tagged)) → Has t lattice IsLatticeFile ls → t.files dump ≡ Some text
+      → (ls : Levels) (net : Net) (bytes text : List ℕ) (stream : List (List Tagged))
+      → Has t lattice IsLatticeFile ls → t.files dump ≡ Some text
       → IsModuleStream ls net bytes stream → TellsRun ls net stream text
       → (rows : List ℕ) × (n.written 1 ≡ t.written 1 ++ rows) × AreModuleRows ls net bytes rows
 
 -- The words are those of a `wave`.
 abbrev pub Waves : (words : List (List ℕ)) → (answer : ℕ) → Told → Told → Type 0
 Waves words answer t n =
-    (lattice verilog stimulus out : List ℕ) → command_of words ≡ Some (wave lattice verilog stimulus out) → WavesExactly lattice verilog stimulus out answer t n
+    (lattice verilog stimulus out : List ℕ) → command_of words ≡ Some (wave lattice verilog stimulus out)
+    → WavesExactly lattice verilog stimulus out answer t n
 
 -- The arguments are those of an `unwave`.
 abbrev pub Unwaves : (words : List (List ℕ)) → (lost lost_now answer : ℕ) → Told → Told → Type 0
 Unwaves words lost lost_now answer t n =
-    (lattice dump : List ℕ) → command_of words ≡ Some (unwave lattice dump) → UnwavesExactly lattice dump lost lost_now answer t n
+    (lattice dump : List ℕ) → command_of words ≡ Some (unwave lattice dump)
+    → UnwavesExactly lattice dump lost lost_now answer t n

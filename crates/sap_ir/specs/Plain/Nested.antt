@@ -34,10 +34,17 @@ pub record Nested : Type 0 where
   pub ports : List Name
   pub states : Forest
 
--- what it declares, without states
+-- What it declares, without states.
 abbrev pub declarations : Nested → Source
 declarations p =
-    record { inputs = p.inputs; wires = p.wires; registers = p.registers; memories = p.memories; ports = p.ports; commands = [] }
+    record {
+      inputs = p.inputs;
+      wires = p.wires;
+      registers = p.registers;
+      memories = p.memories;
+      ports = p.ports;
+      commands = [];
+    }
 
 -- There is a state.
 abbrev pub has_states : Forest → Bool
@@ -49,22 +56,22 @@ abbrev pub size : Forest → ℕ
 size none = 0
 size (state x b kids rest) = suc (size rest)
 
--- the names of a group's states
+-- The names of a group's states.
 abbrev pub group_names : Forest → List Name
 group_names none = []
 group_names (state x b kids rest) = x ∷ group_names rest
 
--- the names of all states, those below each one behind it
+-- The names of all states, those below each one behind it.
 abbrev pub state_names : Forest → List Name
 state_names none = []
 state_names (state x b kids rest) = x ∷ (state_names kids ++ state_names rest)
 
--- the number of a state in its group
+-- The number of a state in its group.
 abbrev pub place : Forest → Name → ℕ
 place none x = 0
 place (state y b kids rest) x = if bytes_eq y x then 0 else suc (place rest x)
 
--- the children of a state of a group
+-- The children of a state of a group.
 abbrev pub children_of : Forest → Name → Forest
 children_of none x = none
 children_of (state y b kids rest) x = if bytes_eq y x then kids else children_of rest x
@@ -73,11 +80,11 @@ children_of (state y b kids rest) x = if bytes_eq y x then kids else children_of
 abbrev pub seats : Nested → List Name
 seats p = root_seat ∷ map seat_name (state_names p.states)
 
--- the first of some widths, from u on, that holds so many numbers from 0
+-- The first of some widths, from u on, that holds so many numbers from 0.
 abbrev pub width_from : (more u count : ℕ) → ℕ
 width_from zero u count = u
 width_from (suc k) u count = if nat_le count (2 ^ u) then u else width_from k (u + 1) count
 
--- the least width of 1 or more, and of at most 64, that can hold the number of each of so many children
+-- The least width of 1 or more, and of at most 64, that can hold the number of each of so many children.
 unfoldable pub seat_width : (count : ℕ) → ℕ
 seat_width count = width_from 63 1 count

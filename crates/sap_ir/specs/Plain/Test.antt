@@ -16,9 +16,11 @@ use Rattle.sap_ir.specs.Plain.IsPlain.{is_gate, keeps_seats, ends_in_transfers}
 -- A body's actions and tests are fine, its `goto`s stay in the group, and it falls only where there are children.
 abbrev pub body_is_fine : Source → (fixed group : List Name) → (nested : Bool) → Body → Bool
 body_is_fine s fixed group nested stop = true
-body_is_fine s fixed group nested (act a rest) = action_is_fine s a && keeps_seats fixed a && body_is_fine s fixed group nested rest
+body_is_fine s fixed group nested (act a rest) =
+    action_is_fine s a && keeps_seats fixed a && body_is_fine s fixed group nested rest
 body_is_fine s fixed group nested (cases t then_part else_part rest) =
-    value_is_fine s t 1 && body_is_fine s fixed group nested then_part && body_is_fine s fixed group nested else_part && body_is_fine s fixed group nested rest
+    value_is_fine s t 1 && body_is_fine s fixed group nested then_part
+    && body_is_fine s fixed group nested else_part && body_is_fine s fixed group nested rest
 body_is_fine s fixed group nested (goto x rest) = is_among x group && body_is_fine s fixed group nested rest
 body_is_fine s fixed group nested (fall rest) = nested && body_is_fine s fixed group nested rest
 
@@ -44,5 +46,6 @@ forest_is_fine s fixed group (state x b kids rest) =
 unfoldable pub is_plain : Nested → Bool
 is_plain p =
     is_guarded (declarations p) && list_all (λ x. not (is_gate x)) (declared (declarations p)) && has_states p.states
-    && list_all (is_name One) (state_names p.states) && are_distinct (state_names p.states) && seat_is_fine (declarations p) root_seat p.states
+    && list_all (is_name One) (state_names p.states) && are_distinct (state_names p.states)
+    && seat_is_fine (declarations p) root_seat p.states
     && forest_is_fine (declarations p) (seats p) (group_names p.states) p.states

@@ -6,11 +6,12 @@ use Rattle.sap_ir.specs.declared.plain.nested.PlainCmd.TheVariants as cmd
 use Rattle.sap_ir.specs.declared.plain.nested.PlainState.{PlainState, PlainState', Row_of-PlainState, end_of-PlainState, more_of-PlainState}
 use Rattle.sap_ir.specs.Plain.Nested.{Body, stop, act, cases, goto, fall, Forest, none, state}
 
--- a command in front of others
+-- A command in front of others.
 unfoldable mutual
   pub command_before : PlainCmd → Body → Body
   command_before (cmd.Do a) rest = act (action_of a) rest
-  command_before (cmd.If' t n then_part m else_part) rest = cases (term_of t) (row_body then_part) (row_body else_part) rest
+  command_before (cmd.If' t n then_part m else_part) rest =
+      cases (term_of t) (row_body then_part) (row_body else_part) rest
   command_before (cmd.Goto x) rest = goto x rest
   command_before cmd.Fall rest = fall rest
 
@@ -23,7 +24,7 @@ unfoldable pub body_of : List PlainCmd → Body
 body_of [] = stop
 body_of (c ∷ cs) = command_before c (body_of cs)
 
--- a state in front of others
+-- A state in front of others.
 unfoldable mutual
   pub state_before : PlainState → Forest → Forest
   state_before (PlainState' x cs n kids) rest = state x (body_of cs.items) (row_forest kids) rest
@@ -37,7 +38,7 @@ unfoldable pub forest_of : List PlainState → Forest
 forest_of [] = none
 forest_of (s ∷ ss) = state_before s (forest_of ss)
 
--- one body behind another
+-- One body behind another.
 abbrev pub follow : Body → Body → Body
 follow stop b = b
 follow (act a rest) b = act a (follow rest b)
@@ -45,7 +46,7 @@ follow (cases t then_part else_part rest) b = cases t then_part else_part (follo
 follow (goto x rest) b = goto x (follow rest b)
 follow (fall rest) b = fall (follow rest b)
 
--- one group behind another
+-- One group behind another.
 abbrev pub planted : Forest → Forest → Forest
 planted none f = f
 planted (state x b kids rest) f = state x b kids (planted rest f)

@@ -7,31 +7,38 @@ use Rattle.sap_stream.specs.Spans.{Span}
 use Rattle.sap_lines.specs.Stepping.Pace.{Shows}
 use Rattle.sap_lines.specs.Stepping.Waiting.{PieceWritten}
 
--- behind so many others, these cycles add this text to what is shown
-abbrev pub Adds : (behind : List (List Given) → Type 0) → (shows later : Shows) → (count : ℕ) → (cycles : List (List Given)) → (text : List ℕ) → Type 0
+-- Behind so many others, these cycles add this text to what is shown.
+abbrev pub Adds : (behind : List (List Given) → Type 0) → (shows later : Shows) → (count : ℕ)
+    → (cycles : List (List Given)) → (text : List ℕ) → Type 0
 Adds behind shows later count cycles text =
-    (before : List (List Given)) (shown : List ℕ) → behind before → count ≡ length before → shows before shown → later (before ++ cycles) (shown ++ text)
+    (before : List (List Given)) (shown : List ℕ) → behind before → count ≡ length before
+    → shows before shown → later (before ++ cycles) (shown ++ text)
 
--- the step on a line, in the cycle of this number, adds a text to what is shown, and this holds of the text
-pub record StepShown (behind : List (List Given) → Type 0) (shows later : Shows) (cycle : ℕ) (line : List Given) (Holds : (text : List ℕ) → Type 0) : Type 0 where
+-- The step on a line, in the cycle of this number, adds a text to what is shown, and this holds of the text.
+pub record StepShown (behind : List (List Given) → Type 0) (shows later : Shows) (cycle : ℕ)
+    (line : List Given) (Holds : (text : List ℕ) → Type 0) : Type 0 where
   pub text : List ℕ
   pub adds : (count : ℕ) → cycle ≡ count + 1 → Adds behind shows later count (line ∷ []) text
   pub holds : Holds text
 
--- the first of these cycles, however many, add a beginning of this text
-abbrev pub AddsAlong : (behind : List (List Given) → Type 0) → (shows : Shows) → (count : ℕ) → (cycles : List (List Given)) → (text : List ℕ) → Type 0
-AddsAlong behind shows count cycles text = (first : ℕ) → (part more : List ℕ) × Adds behind shows shows count (take first cycles) part × (text ≡ part ++ more)
+-- The first of these cycles, however many, add a beginning of this text.
+abbrev pub AddsAlong : (behind : List (List Given) → Type 0) → (shows : Shows) → (count : ℕ)
+    → (cycles : List (List Given)) → (text : List ℕ) → Type 0
+AddsAlong behind shows count cycles text =
+    (first : ℕ) → (part more : List ℕ) × Adds behind shows shows count (take first cycles) part × (text ≡ part ++ more)
 
--- what these cycles show was written behind what waited, but what waits now
-pub record CyclesShown (behind : List (List Given) → Type 0) (shows later : Shows) (count : ℕ) (cycles : List (List Given))
+-- What these cycles show was written behind what waited, but what waits now.
+pub record CyclesShown (behind : List (List Given) → Type 0) (shows later : Shows) (count : ℕ)
+    (cycles : List (List Given))
     (waited waits : List ℕ) (before after : Option Told) : Type 0 where
   pub text : List ℕ
   pub adds : Adds behind shows later count cycles text
   pub along : AddsAlong behind shows count cycles text
   pub written : PieceWritten (waited ++ text) waits before after
 
--- a write failed: of what waited and what the first cycles of a line show only a part was written
-pub record CyclesCut (behind : List (List Given) → Type 0) (shows later : Shows) (count : ℕ) (line : Span) (waited : List ℕ) (before after : Option Told) : Type 0 where
+-- A write failed: of what waited and what the first cycles of a line show only a part was written.
+pub record CyclesCut (behind : List (List Given) → Type 0) (shows later : Shows) (count : ℕ)
+    (line : Span) (waited : List ℕ) (before after : Option Told) : Type 0 where
   pub first : ℕ
   pub within : first ≤ line.count
   pub text : List ℕ

@@ -13,7 +13,7 @@ use Rattle.sap_lines.specs.declared.stepping.stopped.Stopped.TheVariants.{Call, 
 use Rattle.sap_lines.specs.Stepping.Followed.{IsPartShown, blamed_for}
 use Rattle.sap_lines.specs.Stepping.Pace.{FaultOf, IsNeeded, IsTooLong, IsWritten, Prints, Shows, printed_fault, printed_text}
 
--- this was written on channel 1, and nothing else changed but what is open and whom the desk blames
+-- This was written on channel 1, and nothing else changed but what is open and whom the desk blames.
 pub record OutputGrew (gained : List ℕ) (t n : Told) : Type 0 where
   pub files : n.files ≡ t.files
   pub output : n.written 1 ≡ t.written 1 ++ gained
@@ -21,8 +21,9 @@ pub record OutputGrew (gained : List ℕ) (t n : Told) : Type 0 where
   pub others : (k : ℕ) → k ≢ 1 → n.written k ≡ t.written k
   pub room : n.room ≡ t.room
 
--- all lines before the first that is refused are shown
-pub record Printed (shows : Shows) (ls : Levels) (fs : List Field) (name : List ℕ) (fault : Option StimFault) (t n : Told) : Type 0 where
+-- All lines before the first that is refused are shown.
+pub record Printed (shows : Shows) (ls : Levels) (fs : List Field) (name : List ℕ)
+    (fault : Option StimFault) (t n : Told) : Type 0 where
   pub bytes : List ℕ
   pub file : t.files name ≡ Some bytes
   pub is_fault : fault ≡ (stimulus_of ls fs bytes).fault
@@ -32,8 +33,10 @@ pub record Printed (shows : Shows) (ls : Levels) (fs : List Field) (name : List 
   pub uses : n.uses ≡ t.uses
   pub blame : n.blame ≡ t.blame
 
--- A call failed where so many bytes of a file were read, the last piece asked for behind so many of them, and this was written: the channel is still open that reads it, since no further call is made.
-pub record StaysOpen (why : FailedCall) (name : List ℕ) (text : Prints) (fault : FaultOf) (t : Told) (gained : List ℕ) (before after : ℕ → Use) : Type 0 where
+-- A call failed where so many bytes of a file were read, the last piece asked for behind so many of them, and this was
+-- written: the channel is still open that reads it, since no further call is made.
+pub record StaysOpen (why : FailedCall) (name : List ℕ) (text : Prints) (fault : FaultOf) (t : Told)
+    (gained : List ℕ) (before after : ℕ → Use) : Type 0 where
   pub channel : ℕ
   pub above : 2 < channel
   pub fresh : before channel ≡ closed
@@ -46,8 +49,10 @@ pub record StaysOpen (why : FailedCall) (name : List ℕ) (text : Prints) (fault
   pub needed : IsNeeded fault (take asked bytes)
   pub written : IsWritten why text (take asked bytes) (take position bytes) gained
 
--- a call failed once the file was open: what is written is the beginning of what is shown, and no line is shown that isn't whole in the bytes that were read
-pub record CutShort (shows : Shows) (ls : Levels) (fs : List Field) (name : List ℕ) (why : FailedCall) (t n : Told) : Type 0 where
+-- A call failed once the file was open: what is written is the beginning of what is shown, and no line is shown that
+-- isn't whole in the bytes that were read.
+pub record CutShort (shows : Shows) (ls : Levels) (fs : List Field) (name : List ℕ) (why : FailedCall)
+    (t n : Told) : Type 0 where
   pub gained : List ℕ
   pub grew : OutputGrew gained t n
   pub blame : n.blame ≡ blamed_for why name
@@ -55,15 +60,16 @@ pub record CutShort (shows : Shows) (ls : Levels) (fs : List Field) (name : List
   pub part : IsPartShown shows ls fs stays.bytes gained
   pub part_read : IsPartShown shows ls fs (take stays.position stays.bytes) gained
 
--- what stands where a call failed: the file could not be opened, and only the blame changed; or the file was opened, and printing was cut short
+-- What stands where a call failed: the file could not be opened, and only the blame changed; or the file was opened,
+-- and printing was cut short.
 abbrev pub CallFailed : Shows → Levels → List Field → (name : List ℕ) → FailedCall → Told → Told → Type 0
 CallFailed shows ls fs name why t n = ((why ≡ Input) × (n ≡ blamed name t)) ⊎ CutShort shows ls fs name why t n
 
--- it ended early: by a failed call, of which this holds; or for want of memory, and nothing changed
+-- It ended early: by a failed call, of which this holds; or for want of memory, and nothing changed.
 abbrev pub Stops : (Failure : FailedCall → Told → Told → Type 0) → Stopped → Told → Told → Type 0
 Stops Failure (Call why) t n = Failure why t n
 Stops Failure Memory t n = n ≡ t
 
--- why a file can't be read that is printed line by line, at a desk on which no call is still to fail by its number
+-- Why a file can't be read that is printed line by line, at a desk on which no call is still to fail by its number.
 abbrev pub MissingOrTooLong : FaultOf → (name : List ℕ) → Told → Type 0
 MissingOrTooLong fault name t = (t.files name ≡ None) ⊎ IsTooLong fault (bytes_of t name)

@@ -1,4 +1,5 @@
--- What hangs on each command of a design that has a list of it: by name; as the list itself; and as what the command touches in the tree.
+-- What hangs on each command of a design that has a list of it: by name; as the list itself; and as what the command
+-- touches in the tree.
 use Rattle.std.specs.Prelude.{ℕ, Bool, true, false, List, [], ◌∷◌, ◌++◌, map}
 use Rattle.sap_tree.specs.declared.syntax.Decl.{Decl}
 use Rattle.sap_tree.specs.Syntax.{DesignTree}
@@ -11,7 +12,7 @@ use Rattle.sap_meaning.specs.Program.{Step, assign, write, retag, retag_cell, go
 use Rattle.sap_meaning.specs.Walks.{folded, folded_in_arms, folded_in_block, body_of, gathered_from, gathered_from_group}
 use Rattle.sap_resolved.specs.Fill.{program_of}
 
--- an `if`, an `otherwise`, a `fall`, a `then` or a `case`, with the names of what hangs on it
+-- An `if`, an `otherwise`, a `fall`, a `then` or a `case`, with the names of what hangs on it.
 pub data Point : Type 0 where
   at_if : List (List ℕ) → Point
   at_otherwise : List (List ℕ) → Point
@@ -19,7 +20,7 @@ pub data Point : Type 0 where
   at_then : List (List ℕ) → Point
   at_case : List (List ℕ) → Point
 
--- the names whose entry is true, in the order of declaration
+-- The names whose entry is true, in the order of declaration.
 abbrev pub hanging : (names : List (List ℕ)) → List Bool → List (List ℕ)
 hanging [] hang = []
 hanging (n ∷ ns) [] = []
@@ -35,7 +36,7 @@ step_points names (retag_cell site m j n) = []
 step_points names (go_to site target) = []
 step_points names (fall_to_child site hang) = at_fall (hanging names hang) ∷ []
 
--- in the order of the words
+-- In the order of the words.
 abbrev pub own_points : List (List ℕ) → Command → (below : List Point) → List Point
 own_points names (lone k) below = step_points names k
 own_points names (try k hang h) below = step_points names k ++ at_otherwise (hanging names hang) ∷ below
@@ -67,7 +68,7 @@ group_points names g = gathered_from_group [] ◌++◌ (λ s. block_points names
 abbrev pub names_of : DesignTree → List (List ℕ)
 names_of d = map (λ e. e.name.name) (entities_of d)
 
--- of a design; and what hangs on the root's fall
+-- Of a design; and what hangs on the root's fall.
 abbrev pub hang_table : Levels → DesignTree → List Point
 hang_table ls d = group_points (names_of d) (program_of ls d).states
 
@@ -75,7 +76,7 @@ hang_table ls d = group_points (names_of d) (program_of ls d).states
 abbrev pub hang_at_root : Levels → DesignTree → List (List ℕ)
 hang_at_root ls d = hanging (names_of d) (program_of ls d).hang
 
--- the lists themselves, each over the entities' numbers, in the same order
+-- The lists themselves, each over the entities' numbers, in the same order.
 abbrev pub step_rows : Step → List (List Bool)
 step_rows (assign site x e) = []
 step_rows (write site m i e) = []
@@ -112,7 +113,8 @@ state_rows t = gathered_from [] ◌++◌ (λ s. block_rows (body_of s)) t
 abbrev pub group_rows : Group → List (List Bool)
 group_rows g = gathered_from_group [] ◌++◌ (λ s. block_rows (body_of s)) g
 
--- the same over the tree: of each entity, in the order of declaration, whether the command at the point touches its name
+-- The same over the tree: of each entity, in the order of declaration, whether the command at the point touches its
+-- name.
 abbrev pub row_of : List Entity → (List ℕ → Bool) → List Bool
 row_of es test = map (λ e. test e.name.name) es
 

@@ -7,14 +7,14 @@ use Rattle.sap_meaning.specs.Fine.{FineProgram, ExactProgram}
 use Rattle.sap_meaning.specs.Sites.{program_sites, RisesFrom}
 use Rattle.sap_resolved.specs.Fill.{program_of}
 
--- the program of a well-formed design is fine
+-- The program of a well-formed design is fine.
 abbrev pub ProgramsAreFine : Type 0
 ProgramsAreFine = (ls : Levels) (d : DesignTree) → Laws (order_of ls) → WellFormed ls d → FineProgram (program_of ls d)
 
--- in the program of any design each list has exactly what hangs
+-- In the program of any design each list has exactly what hangs.
 abbrev pub ListsAreExact : Type 0
 ListsAreExact = (ls : Levels) (d : DesignTree) → ExactProgram (program_of ls d)
 
--- the check sites of a well-formed design are numbered from 1, and rise in the order of the text
+-- The check sites of a well-formed design are numbered from 1, and rise in the order of the text.
 abbrev pub SitesRise : Type 0
 SitesRise = (ls : Levels) (d : DesignTree) → WellFormed ls d → RisesFrom 1 (program_sites (program_of ls d))

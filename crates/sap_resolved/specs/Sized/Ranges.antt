@@ -1,4 +1,5 @@
--- Programs in which every width is from 1 to 64, each slice is within what it is taken from, and each memory has a depth that memories can have.
+-- Programs in which every width is from 1 to 64, each slice is within what it is taken from, and each memory has a
+-- depth that memories can have.
 use Rattle.std.specs.Prelude.{◌≡◌, ℕ, ◌+◌, ◌<◌, ◌≤◌, true, false}
 pub use Rattle.sap_maps.specs.Ranges.{IsDepth, IsWidth}
 use Rattle.sap_maps.specs.Term.{Term, constant, read, cell, one, two, choose, join, part}
@@ -7,7 +8,7 @@ use Rattle.sap_meaning.specs.Walks.{EveryLevel, Every, EveryInArms, EveryInBlock
 use Rattle.sap_meaning.specs.Expressions.{width_of}
 use Rattle.sap_meaning.specs.Sized.{depth}
 
--- the widths of a term and of all its parts, those of indexes included
+-- The widths of a term and of all its parts, those of indexes included.
 abbrev pub RangedTerm : World → Term ℕ → Type 0
 RangedTerm w (constant u n) = IsWidth u
 RangedTerm w (read x) = IsWidth (width w x)
@@ -51,7 +52,7 @@ RangedState w t = EveryBody (RangedBlock w) t
 abbrev pub RangedGroup : World → Group → Type 0
 RangedGroup w g = EveryBodyIn (RangedBlock w) g
 
--- states have no width
+-- States have no width.
 pub record RangedProgram (p : Program) : Type 0 where
   pub states : RangedGroup p.world p.states
   pub widths : (x : ℕ) → is_state p.world x ≡ false → IsWidth (width p.world x)

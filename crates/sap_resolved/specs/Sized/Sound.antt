@@ -10,12 +10,12 @@ use Rattle.sap_resolved.specs.WellNamed.{WellNamedGroup}
 use Rattle.sap_resolved.specs.Fill.{program_of}
 use Rattle.sap_resolved.specs.Sized.Ranges.{RangedProgram}
 
--- each name is that of an entity of the kind that its place asks for, and each written level is one of the lattice
+-- Each name is that of an entity of the kind that its place asks for, and each written level is one of the lattice.
 abbrev pub NamesFit : Type 0
 NamesFit = (ls : Levels) (d : DesignTree) → Laws (order_of ls) → design_name_faults ls.names (order_of ls).le d ≡ []
     → WellNamedGroup (program_of ls d).world (program_of ls d).states
 
--- the widths of expressions fit where they stand, and one another, and what the entities start with fits them
+-- The widths of expressions fit where they stand, and one another, and what the entities start with fits them.
 abbrev pub SizesFit : Type 0
 SizesFit = (ls : Levels) (d : DesignTree) → Laws (order_of ls) → design_name_faults ls.names (order_of ls).le d ≡ []
     → SizedProgram (program_of ls d)

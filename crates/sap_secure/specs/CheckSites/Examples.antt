@@ -6,7 +6,8 @@ use Rattle.sap_lattice.specs.Examples.{low_high}
 use Rattle.sap_resolved.specs.Fill.{program_of}
 use Rattle.sap_secure.specs.CheckSites.ProgramSites.{sites_in}
 
--- state P enforced low { fall otherwise { goto P; } state S enforced low { goto S; } }: a `fall` is a site of its own state
+-- In `state P enforced low { fall otherwise { goto P; } state S enforced low { goto S; } }` a `fall` is a site of its
+-- own state.
 abbrev pub NestedSites : Type 0
 NestedSites = sites_in (program_of low_high nested)
     ≡ record { number = 1; kind = kind.Fall; entity = 0 }

@@ -1,6 +1,7 @@
--- The check sites of a design and those of its program are one list. One walk over the tree finds them (`sap_shape`, `Sites`): the check tells of its list
--- (`sap_check`, `Sites`), and the program's commands are numbered by its length (`sap_resolved`, `Resolve`). That the commands so numbered are the sites that
--- the program itself has, found by walking it, is stated here.
+-- The check sites of a design and those of its program are one list. One walk over the tree finds them (`sap_shape`,
+-- `Sites`): the check tells of its list (`sap_check`, `Sites`), and the program's commands are numbered by its length
+-- (`sap_resolved`, `Resolve`). That the commands so numbered are the sites that the program itself has, found by
+-- walking it, is stated here.
 use Rattle.std.specs.Prelude.{◌≡◌, ℕ, suc, List, [], ◌∷◌}
 use Rattle.sap_tree.specs.Syntax.{DesignTree}
 use Rattle.sap_lattice.specs.Levels.{Levels}
@@ -10,12 +11,12 @@ use Rattle.sap_check.specs.Sites.{sites_of}
 use Rattle.sap_resolved.specs.Fill.{program_of}
 use Rattle.sap_secure.specs.CheckSites.ProgramSites.{ProgramSite, sites_in}
 
--- these sites of a design as those of a program, the first with the number k
+-- These sites of a design as those of a program, the first with the number k.
 abbrev pub numbered : (k : ℕ) → List Site → List ProgramSite
 numbered k [] = []
 numbered k (s ∷ ss) = record { number = k; kind = s.kind; entity = s.entity } ∷ numbered (suc k) ss
 
--- site k of the program is that of the design, in what it does and in its entity
+-- Site k of the program is that of the design, in what it does and in its entity.
 abbrev pub OneNumbering : Levels → DesignTree → Type 0
 OneNumbering ls d = sites_in (program_of ls d) ≡ numbered 1 (sites_of d)
 

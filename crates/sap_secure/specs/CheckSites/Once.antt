@@ -12,30 +12,32 @@ use Rattle.sap_meaning.specs.Sites.{program_sites, refused_sites, Sublist}
 use Rattle.sap_resolved.specs.Fill.{program_of}
 use Rattle.sap_secure.specs.Once.Steps.{cycle_steps}
 
--- the site of a step, where it is one: what is none has the number 0
+-- The site of a step, where it is one: what is none has the number 0.
 abbrev pub own_site : Step → List ℕ
 own_site k = if nat_eq (site_of k) 0 then [] else site_of k ∷ []
 
--- the sites among some steps
+-- The sites among some steps.
 abbrev pub sites_met : List Step → List ℕ
 sites_met [] = []
 sites_met (k ∷ ks) = own_site k ++ sites_met ks
 
--- how many of the steps are those of the site k, refused or not
+-- How many of the steps are those of the site k, refused or not.
 abbrev pub comes_to : (k : ℕ) → List Step → ℕ
 comes_to k steps = count_by (λ s. nat_eq (site_of s) k) steps
 
--- in a well-formed design a cycle comes to check sites of the program in the order of the text, ..
+-- In a well-formed design a cycle comes to check sites of the program in the order of the text.
 abbrev pub SitesInTurn : Type 0
 SitesInTurn = (ls : Levels) (d : DesignTree) → Laws (order_of ls) → WellFormed ls d → (inputs : List Tagged) (s : Store)
     → Sublist (sites_met (cycle_steps (program_of ls d) inputs s)) (program_sites (program_of ls d))
 
--- .. and so to each at most once
+-- In a well-formed design a cycle comes to each check site at most once.
 abbrev pub EachSiteOnce : Type 0
-EachSiteOnce = (ls : Levels) (d : DesignTree) → Laws (order_of ls) → WellFormed ls d → (inputs : List Tagged) (s : Store)
+EachSiteOnce = (ls : Levels) (d : DesignTree) → Laws (order_of ls) → WellFormed ls d
+    → (inputs : List Tagged) (s : Store)
     → (k : ℕ) → 1 ≤ k → comes_to k (cycle_steps (program_of ls d) inputs s) ≤ 1
 
 -- The sites that the labelled cycle refuses are among those, in the same order.
 abbrev pub RefusedMet : Type 0
 RefusedMet = (ls : Levels) (d : DesignTree) → Laws (order_of ls) → WellFormed ls d → (inputs : List Tagged) (s : Store)
-    → Sublist (refused_sites (cycle (program_of ls d) inputs s).refused) (sites_met (cycle_steps (program_of ls d) inputs s))
+    → Sublist (refused_sites (cycle (program_of ls d) inputs s).refused)
+    (sites_met (cycle_steps (program_of ls d) inputs s))

@@ -1,4 +1,5 @@
--- The check sites of a program, in the order of the text: what each does, and to which entity. The labelled meaning finds them.
+-- The check sites of a program, in the order of the text: what each does, and to which entity. The labelled meaning
+-- finds them.
 use Rattle.std.specs.Prelude.{ℕ, List, map}
 use Rattle.sap_check.specs.declared.site.SiteKind.{SiteKind}
 use Rattle.sap_check.specs.declared.site.SiteKind.TheVariants as kind
@@ -21,7 +22,7 @@ kind_of_step (retag_cell site m j n) = kind.SetTag
 kind_of_step (go_to site target) = kind.Goto
 kind_of_step (fall_to_child site hang) = kind.Fall
 
--- its target, and of a fall the state in whose body it stands
+-- Its target, and of a fall the state in whose body it stands.
 abbrev pub entity_of : (state : ℕ) → Step → ℕ
 entity_of s (assign site x e) = x
 entity_of s (write site m i e) = m

@@ -13,58 +13,63 @@ use Rattle.sap_meaning.specs.Fine.{FineProgram}
 use Rattle.sap_resolved.specs.Fill.{program_of}
 use Rattle.sap_lattice.specs.Examples.{low_high}
 
--- enforced level under authority
+-- Enforced level under authority.
 abbrev pub guarded : (level authority : List ℕ) → Kind
-guarded level authority = let under : Under = record { place = nowhere; level = named authority } in Enforced (named level) (Some under)
+guarded level authority = let under : Under = record { place = nowhere; level = named authority } in
+    Enforced (named level) (Some under)
 
 -- A block of one command.
 abbrev pub one : Command → CommandBlock
 one c = block (c ∷ [])
 
--- m[index] := value;
+-- The text `m[index] := value;`.
 abbrev pub store : (index value : ℕ) → Command
 store index value = lone (write (named (codes "m")) (number index) (number value))
 
--- x := value;
+-- The text `x := value;`.
 abbrev pub set_x : Expression → Command
 set_x value = lone (assign (named (codes "x")) value)
 
--- goto target;
+-- The text `goto target;`.
 abbrev pub go : List ℕ → SimpleCommand
 go target = go_to nowhere (named target)
 
--- state D dynamic { m[1] := 3; goto D; }
+-- The text `state D dynamic { m[1] := 3; goto D; }`.
 abbrev pub state_d : StateTree
-state_d = state_node nowhere (named (codes "D")) (Dynamic nowhere) (block (store 1 3 ∷ lone (go (codes "D")) ∷ [])) no_state
+state_d = state_node nowhere (named (codes "D")) (Dynamic nowhere)
+    (block (store 1 3 ∷ lone (go (codes "D")) ∷ [])) no_state
 
--- state C dynamic { x := m[2]; goto C; state D .. }
--- A cycle never falls into D, which may so write the memory that P has written.
+-- The state `state C dynamic { x := m[2]; goto C; state D .. }`. A cycle never falls into D, which may so write the
+-- memory that P has written.
 abbrev pub state_c : StateTree
 state_c =
-    state_node nowhere (named (codes "C")) (Dynamic nowhere) (block (set_x (cell_at no_spot (codes "m") (number 2)) ∷ lone (go (codes "C")) ∷ []))
+    state_node nowhere (named (codes "C")) (Dynamic nowhere)
+    (block (set_x (cell_at no_spot (codes "m") (number 2)) ∷ lone (go (codes "C")) ∷ []))
     (and_state state_d no_state)
 
--- if (a) { fall; } else { goto Q; }
+-- The text `if (a) { fall; } else { goto Q; }`.
 abbrev pub choice : Command
-choice = if_else nowhere (read (codes "a")) (one (lone (fall_to_child nowhere))) (with_else (one (lone (go (codes "Q")))))
+choice = if_else nowhere (read (codes "a")) (one (lone (fall_to_child nowhere)))
+    (with_else (one (lone (go (codes "Q")))))
 
--- state P enforced low { m[0] := 1; if (a) { fall; } else { goto Q; } state C .. }
+-- The text `state P enforced low { m[0] := 1; if (a) { fall; } else { goto Q; } state C .. }`.
 abbrev pub state_p : StateTree
-state_p = state_node nowhere (named (codes "P")) (enforced (codes "low")) (block (store 0 1 ∷ choice ∷ [])) (and_state state_c no_state)
+state_p = state_node nowhere (named (codes "P")) (enforced (codes "low"))
+    (block (store 0 1 ∷ choice ∷ [])) (and_state state_c no_state)
 
--- setTag(y, high) otherwise { x := 1; }
+-- The text `setTag(y, high) otherwise { x := 1; }`.
 abbrev pub raise : Command
 raise = try (set_tag nowhere (named (codes "y")) (level_of (named (codes "high")))) nowhere (one (set_x (number 1)))
 
--- goto P otherwise { goto Q; }
+-- The text `goto P otherwise { goto Q; }`.
 abbrev pub leave : Command
 leave = try (go (codes "P")) nowhere (one (lone (go (codes "Q"))))
 
--- state Q enforced high { setTag(y, high) otherwise { x := 1; } goto P otherwise { goto Q; } }
+-- The text `state Q enforced high { setTag(y, high) otherwise { x := 1; } goto P otherwise { goto Q; } }`.
 abbrev pub state_q : StateTree
 state_q = state_node nowhere (named (codes "Q")) (enforced (codes "high")) (block (raise ∷ leave ∷ [])) no_state
 
--- input a : 1; mem m : 8[4] dynamic; reg x : 8 dynamic; reg y : 4 enforced high under low = 5; and the states P and Q
+-- Input a : 1; mem m : 8[4] dynamic; reg x : 8 dynamic; reg y : 4 enforced high under low = 5; and the states P and Q.
 abbrev pub sample : DesignTree
 sample = record {
   version = One;
@@ -79,6 +84,6 @@ sample = record {
 abbrev pub Formed : Type 0
 Formed = WellFormed low_high sample
 
--- so the sample has all that the laws ask for
+-- So the sample has all that the laws ask for.
 abbrev pub SampleServes : Type 0
 SampleServes = FineProgram (program_of low_high sample)

@@ -11,7 +11,7 @@ use Rattle.sap_lattice.specs.Examples.{low_high}
 use Rattle.sap_meaning.specs.Cycle.{Tagged}
 use Rattle.sap_sim.specs.Labelled.LabelledRows.{labelled_rows}
 
--- input a : 8; reg x : 8 dynamic; state S enforced low { x := a + 1; goto S; }
+-- The text `input a : 8; reg x : 8 dynamic; state S enforced low { x := a + 1; goto S; }`.
 abbrev pub adder : DesignTree
 adder = record {
   version = One;
@@ -19,15 +19,17 @@ adder = record {
       ∷ Register (at 14) (mention (at 18) (codes "x")) (numeral_at (at 22) 8) (Dynamic (at 24)) None ∷ [];
   states = and_state (state_node (at 33) (mention (at 39) (codes "S")) (Enforced (mention (at 50) (codes "low")) None)
       (command_block
-      (and_command (lone (assign (mention (at 56) (codes "x")) (binary_of (spot (at 63)) operator.Add (variable (spot (at 61)) (codes "a")) (literal (spot (at 65)) 1))))
+      (and_command (lone (assign (mention (at 56) (codes "x"))
+      (binary_of (spot (at 63)) operator.Add (variable (spot (at 61)) (codes "a")) (literal (spot (at 65)) 1))))
       (and_command (lone (go_to (at 68) (mention (at 73) (codes "S")))) no_command))
       (at 76)) no_state) no_state;
 }
 
--- a number and a level on the one input
+-- A number and a level on the one input.
 abbrev pub given : (number level : ℕ) → List Tagged
 given number level = record { number = number; level = level } ∷ []
 
--- 5@low, then 255@high
+-- On `5@low`, then `255@high`, the design adds one.
 abbrev pub AddsOne : Type 0
-AddsOne = labelled_rows low_high adder (given 5 0 ∷ given 255 1 ∷ []) ≡ line (codes "cycle 1: x=6@low") ++ line (codes "cycle 2: x=0@high")
+AddsOne = labelled_rows low_high adder (given 5 0 ∷ given 255 1 ∷ []) ≡ line (codes "cycle 1: x=6@low")
+    ++ line (codes "cycle 2: x=0@high")

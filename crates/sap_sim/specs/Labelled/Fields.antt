@@ -1,4 +1,5 @@
--- The fields of a stimulus for a design: a tagged field of the declared width for each input, in the order of declaration.
+-- The fields of a stimulus for a design: a tagged field of the declared width for each input, in the order of
+-- declaration.
 use Rattle.std.specs.Prelude.{List, Option, Some, None, filter_map}
 use Rattle.sap_tree.specs.Syntax.{DesignTree}
 use Rattle.sap_names.specs.declared.kind.Declared.{Declared}
@@ -7,7 +8,7 @@ use Rattle.sap_names.specs.Entities.{entities_of}
 use Rattle.sap_stim.specs.declared.field.Field.{Field}
 use Rattle.sap_stim.specs.declared.field.Field.TheVariants.{Tagged}
 
--- an input has a field
+-- An input has a field.
 abbrev pub field_of : Declared → Option Field
 field_of (Input width) = Some (Tagged width)
 field_of (Register width) = None

@@ -13,17 +13,17 @@ use Rattle.sap_interface.specs.Designs.{named_of}
 use Rattle.sap_stim.specs.Rows.{Shown, row_text}
 use Rattle.sap_sim.specs.Told.{told_from}
 
--- the name of a level; a number that is none counts as level 0
+-- The name of a level; a number that is none counts as level 0.
 abbrev pub level_name : Levels → ℕ → List ℕ
 level_name ls t = name_at ls.names (level_in (length ls.names) t)
 
--- the register of this number, and its level's code as its tag
+-- The register of this number, and its level's code as its tag.
 abbrev pub register_shown : Levels → Named → Store → (x : ℕ) → Shown
 register_shown ls d s x =
     let t = level (world d) (own x) s in
     record { name = name d x; value = number (own x) s; level = Some (level_name ls t); tag = d.code t }
 
--- the registers among some entities, in the order of declaration; x is the number of the first entity
+-- The registers among some entities, in the order of declaration; x is the number of the first entity.
 abbrev pub registers_shown : Levels → Named → Store → (x : ℕ) → List Entity → List Shown
 registers_shown ls d s x [] = []
 registers_shown ls d s x (e ∷ es) =
@@ -37,6 +37,6 @@ labelled_row ls d cycle s = row_text cycle (registers_shown ls d s 0 (world d).e
 abbrev pub rows_of_run : Levels → Named → (cycle : ℕ) → List After → List ℕ
 rows_of_run ls d = told_from (λ cycle (a : After). labelled_row ls d cycle a.store)
 
--- the rows of a design's labelled run on a stream, its cycles counted from 1
+-- The rows of a design's labelled run on a stream, its cycles counted from 1.
 abbrev pub labelled_rows : Levels → DesignTree → List (List Tagged) → List ℕ
 labelled_rows ls d stream = rows_of_run ls (named_of ls d) 1 (labelled_run (program_of ls d) stream)

@@ -34,7 +34,7 @@ narrow_right (item.cell m index) = item.cell m (narrow_operand index)
 abbrev pub narrow_port : Port → Port
 narrow_port p = record { direction = p.direction; range = narrow_number p.range; name = p.name }
 
--- the numbers of a `for` and of an `initial` have no part in a width
+-- The numbers of a `for` and of an `initial` have no part in a width.
 abbrev pub narrow_item : Item → Item
 narrow_item (item.wire range x) = item.wire (narrow_number range) x
 narrow_item (item.register range x) = item.register (narrow_number range) x
@@ -44,7 +44,8 @@ narrow_item (item.assign x right) = item.assign x (narrow_right right)
 narrow_item (item.initial x value) = item.initial x value
 narrow_item (item.initial_cells place bound x value) = item.initial_cells place bound x value
 narrow_item (item.always x next) = item.always x (narrow_operand next)
-narrow_item (item.always_cell condition x index value) = item.always_cell (narrow_operand condition) x (narrow_operand index) (narrow_operand value)
+narrow_item (item.always_cell condition x index value) =
+    item.always_cell (narrow_operand condition) x (narrow_operand index) (narrow_operand value)
 
 -- A module whose numbers are made narrow; a module without faults stays as it is.
 abbrev pub narrow_file : File → File

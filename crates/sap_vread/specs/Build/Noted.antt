@@ -34,7 +34,7 @@ noted Start n place x = start_noted n x
 noted Next n place x = next_noted n place x
 noted Write n place x = write_noted n place x
 
--- what the first of the items says, the first of which has this place
+-- What the first of the items says, the first of which has this place.
 unfoldable pub all_noted : Noting → List ℕ → ℕ → List Item → Option ℕ
 all_noted noting n place [] = None
 all_noted noting n place (x ∷ xs) = first_of (noted noting n place x) (all_noted noting n (place + 1) xs)
