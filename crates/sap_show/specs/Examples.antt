@@ -19,15 +19,14 @@ adder = record {
   states = and_state (state_node nowhere (named (codes "S")) (enforced (codes "low"))
       (block (lone (assign (named (codes "x"))
       (binary_of no_spot b.And (binary_of no_spot b.Add (read (codes "a")) (number 1))
-          (binary_of no_spot b.Or (read (codes "a")) (read (codes "x")))))
-          ∷ lone (go_to nowhere (named (codes "S"))) ∷ []))
+      (binary_of no_spot b.Or (read (codes "a")) (read (codes "x")))))
+      ∷ lone (go_to nowhere (named (codes "S"))) ∷ []))
       no_state) no_state;
 }
 
 -- The canonical text of a design of one input, one register and one state.
 abbrev pub Adder : Type 0
-Adder = canonical_text adder ≡ codes "input a : 8;\nreg x : 8 dynamic;\nstate S enforced low {\n  x := a
-    + 1 & (a | x);\n  goto S;\n}\n"
+Adder = canonical_text adder ≡ codes "input a : 8;\nreg x : 8 dynamic;\nstate S enforced low {\n  x := a + 1 & (a | x);\n  goto S;\n}\n"
 
 -- The four low bits of x.
 abbrev pub low_bits : Expression
@@ -59,13 +58,13 @@ nested = record {
   declarations = d.Input nowhere (named (codes "i")) (numeral 8)
       ∷ d.Register nowhere (named (codes "x")) (numeral 8)
       (k.Enforced (named (codes "low")) (Some (record { place = nowhere; level = named (codes "low") })))
-          (Some (numeral 7))
+      (Some (numeral 7))
       ∷ d.Memory nowhere (named (codes "m")) (numeral 8) (numeral 4) (k.Dynamic nowhere) ∷ [];
   states = and_state (state_node nowhere (named (codes "S")) (k.Dynamic nowhere)
       (block (if_else nowhere (binary_of no_spot b.Lt (read (codes "i")) (number 3))
-          (block (stores ∷ [])) (with_else (block (chooses ∷ []))) ∷ retags ∷ []))
+      (block (stores ∷ [])) (with_else (block (chooses ∷ []))) ∷ retags ∷ []))
       (and_state (state_node nowhere (named (codes "T")) (enforced (codes "high"))
-          (block (lone (go_to nowhere (named (codes "T"))) ∷ [])) no_state) no_state))
+      (block (lone (go_to nowhere (named (codes "T"))) ∷ [])) no_state) no_state))
       no_state;
 }
 
@@ -101,9 +100,9 @@ Nested = canonical_text nested
 abbrev pub looks : Command
 looks = case_of nowhere (read (codes "a"))
     (and_arm (and_part (number 0) (and_part (sized_literal no_spot 2 3) no_part))
-        (block (lone (assign (named (codes "x")) (number 7)) ∷ []))
+    (block (lone (assign (named (codes "x")) (number 7)) ∷ []))
     (and_arm (and_part (number 1) no_part) (block [])
-        (last_arm (block (lone (go_to nowhere (named (codes "S"))) ∷ [])))))
+    (last_arm (block (lone (go_to nowhere (named (codes "S"))) ∷ [])))))
 
 -- An assignment with a block for each outcome.
 abbrev pub decides : Command

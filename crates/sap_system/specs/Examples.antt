@@ -21,8 +21,7 @@ wire_through from to level = record { from = from; to = to; level = Some level }
 
 -- Two parts and two wires, the second through a level.
 abbrev pub TwoParts : Type 0
-TwoParts = IsSystemOfFile (codes "parts = [['p', 'a.sap'], ['q', 'b.sap']]\nwires = [['p.x', 'q.b'],
-    ['q.y', 'p.a', 'low']]")
+TwoParts = IsSystemOfFile (codes "parts = [['p', 'a.sap'], ['q', 'b.sap']]\nwires = [['p.x', 'q.b'], ['q.y', 'p.a', 'low']]")
     (listing (part (codes "p") (codes "a.sap") ∷ part (codes "q") (codes "b.sap") ∷ [])
     (wire (codes "p.x") (codes "q.b") ∷ wire_through (codes "q.y") (codes "p.a") (codes "low") ∷ []))
 
