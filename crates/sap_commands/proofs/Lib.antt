@@ -1,5 +1,5 @@
 pub mod ModulesAlike
-pub mod CompiledDesigns
+pub mod CheckedDesigns
 pub mod Agreements
 pub mod TwinEnds
 pub mod StreamEnds

@@ -16,6 +16,7 @@ use Rattle.sap_compile.specs.Compiles.{IsModuleFor}
 use Rattle.sap_compile.specs.Runs.{HasOneRun}
 use Rattle.sap_files.proofs.Alike.{named_in}
 use Rattle.sap_files.proofs.Designs.{well_formed_in}
+use Rattle.sap_commands.specs.Commands.{IsModuleText}
 
 -- what is seen of the netlist's runs on agreeing streams, by the order and the names alone
 abbrev OnStreams : Named → Order → Net → ((l : ℕ) → Valuation → Valuation → Type 0) → Type 0
@@ -48,3 +49,6 @@ module _ (l m : Levels) (same : AreSame l m) (d : DesignTree) (n : Net) where
         tidy = is.tidy;
         small = subst (λ (ns : List (List ℕ)). items n ≤ 8 * (1 + design_nodes d) * (1 + entity_count d + length ns)) same.names is.small;
       }
+
+pub text_in : (l m : Levels) → AreSame l m → (d : DesignTree) (text : List ℕ) → IsModuleText l d text → IsModuleText m d text
+text_in l m same d text (net, is) = (net, module_in l m same d net text is)

@@ -2,13 +2,11 @@
 use Rattle.std.proofs.Common.{◌≡◌, ℕ, List, subst, inl, inr}
 use Rattle.std.specs.Prelude.{None, Ok, Err}
 use Rattle.sap_lattice.specs.Prelude.{Levels, order_of, Order}
-use Rattle.sap_latfile.specs.LatticeFile.{IsLatticeOfFile}
 use Rattle.sap_latfile.specs.OneLattice.{AreSame}
-use Rattle.sap_latfile.proofs.OneLattice.{one_lattice}
 use Rattle.sap_meaning.specs.Prelude.{StreamsAgree, Tagged}
 use Rattle.sap_tree.specs.Syntax.{DesignTree}
 use Rattle.sap_net.specs.Net.{Net}
-use Rattle.sap_compile.specs.Compiles.{IsModuleFor}
+use Rattle.sap_compile.specs.Compiles.{IsNetlistFor}
 use Rattle.sap_files.specs.Prelude.{Ending, IsLatticeFile, stream_file, gives, Finds, Ends, EndsReading, Moment, Reads, ending}
 use Rattle.sap_files.specs.declared.failure.Failure.{Failure}
 use Rattle.sap_files.proofs.Ended.{chosen, gave, past, reading_ended}
@@ -21,12 +19,9 @@ use Rattle.sap_commands.proofs.ModulesAlike.{module_in}
 abbrev pub HasStream : (place : ℕ) → Levels → DesignTree → (name : List ℕ) (stream : List (List Tagged)) (a b : Moment) → Type 0
 HasStream place ls d name stream a b = (bytes : List ℕ) × Reads name bytes a b × (stream_file place ls d).Stands bytes stream
 
--- `k` are the levels of the design as it was compiled, `ls` those of the file
-module _ (lattice : List ℕ) (ls k : Levels) (d : DesignTree) (of_file : IsLatticeOfFile lattice k) (is : IsLatticeFile lattice ls)
+-- `k` are the levels of the design as it was checked, `ls` those of the file
+module _ (lattice : List ℕ) (ls k : Levels) (d : DesignTree) (is : IsLatticeFile lattice ls) (same : AreSame k ls)
     (first second word : List ℕ) (l : ℕ) (a : Moment) where
-  same : AreSame k ls
-  same = one_lattice lattice k ls of_file is.lattice
-
   stream_over : (place : ℕ) (name : List ℕ) (stream : List (List Tagged)) (m n : Moment) → HasStream place k d name stream m n → HasStream place ls d name stream m n
   stream_over place name stream m n (bytes, reads, stands) = (bytes, reads, stream_in k ls same place d bytes stream stands)
 
@@ -55,9 +50,9 @@ module _ (lattice : List ℕ) (ls k : Levels) (d : DesignTree) (of_file : IsLatt
       agree_over : StreamsAgree (order_of k) l one other → StreamsAgree (order_of ls) l one other
       agree_over agree = subst (λ (o : Order). StreamsAgree o l one other) same.order agree
 
-      pub told : (net : Net) (written text : List ℕ) (e : Ending) (n : Moment) → IsModuleFor k d net written → Finds k d l one other word (Ok text)
+      pub told : (net : Net) (text : List ℕ) (e : Ending) (n : Moment) → IsNetlistFor k d net → Finds k d l one other word (Ok text)
           → Ends (gives (λ given. given ≡ text)) e c n → Ends (asks_streams ls d first second word l) e a n
-      told net written text e n some found put =
+      told net text e n (written, some) found put =
           let agree : StreamsAgree (order_of ls) l one other = agree_over found.0 in
           past one one_is.1 one_is.2
           (past other other_is.1 other_is.2

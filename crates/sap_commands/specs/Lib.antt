@@ -1,3 +1,3 @@
 pub mod Twin
 pub mod Commands
-pub mod Compiling
+pub mod Comparing

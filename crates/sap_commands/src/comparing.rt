@@ -1,18 +1,16 @@
 //! The command `twin`.
 
-ghost use Rattle.std.specs.Prelude.{ℕ, List};
 ghost use Rattle.sap_check.specs.Checked.{levels_in, tree_in};
-ghost use Rattle.sap_latfile.specs.LatticeFile.{IsLatticeOfFile};
 ghost use Rattle.sap_words.specs.Words.{twin};
 ghost use Rattle.sap_commands.specs.Commands.{asks};
-ghost use Rattle.sap_commands.specs.Compiling.{Compares};
+ghost use Rattle.sap_commands.specs.Comparing.{AreOfFile, Compares};
 ghost use Rattle.sap_files.specs.Steps.{Ends, ending_of, seen};
 
-use crate::compiled::compiled_of_file;
 use sap_check::Checked;
+use sap_compile::design_netlist;
 use sap_desk::Desk;
 use sap_files::failure::Failure;
-use sap_files::{lattice_of_file, level_of, put, stream_of_file, verdict};
+use sap_files::{checked_of_file, lattice_of_file, level_of, put, stream_of_file, verdict};
 use sap_lattice::level::Level;
 use std::alloc::Global;
 
@@ -26,7 +24,7 @@ fn compare<'a, D: Desk>(
     level: Level,
     word: &str,
 ) -> Result<(), Failure<'a>>
-    requires { (lattice : List ℕ) × IsLatticeOfFile lattice (levels_in checked.now) }
+    requires { AreOfFile (levels_in checked.now) }
     ensures { Compares (levels_in checked.now) (tree_in checked.now) first.now second.now word.now level (ending_of result) (seen D.told D.faults D.lost D.sure desk.old) (seen D.told D.faults D.lost D.sure desk.new) }
 {
     let one = stream_of_file(alloc, desk, checked, 1, first)?;
@@ -47,8 +45,11 @@ pub fn twin<'a, D: Desk>(
 ) -> Result<(), Failure<'a>>
     ensures { Ends (asks (twin lattice.now design.now first.now second.now level.now)) (ending_of result) (seen D.told D.faults D.lost D.sure desk.old) (seen D.told D.faults D.lost D.sure desk.new) }
 {
-    let file = lattice_of_file(alloc, desk, lattice)?;
-    let at = level_of(&file.lattice, level)?;
-    let compiled = compiled_of_file(alloc, desk, &file.bytes, design)?;
-    compare(alloc, desk, compiled.checked(), first, second, at, level)
+    let levels = lattice_of_file(alloc, desk, lattice)?;
+    let at = level_of(&levels, level)?;
+    let checked = checked_of_file(alloc, desk, &levels, design)?;
+    // Its clause shows that the design has a module, as the answer promises.
+    let netlist = design_netlist(alloc, &checked)?;
+    drop(netlist);
+    compare(alloc, desk, &checked, first, second, at, level)
 }

@@ -4,10 +4,10 @@ ghost use Rattle.sap_words.specs.Words.{compile};
 ghost use Rattle.sap_commands.specs.Commands.{asks};
 ghost use Rattle.sap_files.specs.Steps.{Ends, ending_of, seen};
 
-use crate::compiled::compiled_of_file;
+use sap_compile::module_text;
 use sap_desk::Desk;
 use sap_files::failure::Failure;
-use sap_files::{lattice_of_file, write};
+use sap_files::{checked_of_file, lattice_of_file, write};
 use std::alloc::Global;
 
 /// Compiles a design file over a lattice file, and writes the module's text.
@@ -20,7 +20,8 @@ pub fn compile<'a, D: Desk>(
 ) -> Result<(), Failure<'a>>
     ensures { Ends (asks (compile lattice.now design.now out.now)) (ending_of result) (seen D.told D.faults D.lost D.sure desk.old) (seen D.told D.faults D.lost D.sure desk.new) }
 {
-    let file = lattice_of_file(alloc, desk, lattice)?;
-    let compiled = compiled_of_file(alloc, desk, &file.bytes, design)?;
-    write(desk, out, compiled.module())
+    let levels = lattice_of_file(alloc, desk, lattice)?;
+    let checked = checked_of_file(alloc, desk, &levels, design)?;
+    let text = module_text(alloc, &checked)?;
+    write(desk, out, &text)
 }

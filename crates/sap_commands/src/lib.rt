@@ -2,7 +2,6 @@
 #![tactic(auto)]
 
 mod comparing;
-mod compiled;
 mod compiling;
 mod generating;
 mod laws;

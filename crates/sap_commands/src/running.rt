@@ -4,10 +4,10 @@ ghost use Rattle.sap_words.specs.Words.{run};
 ghost use Rattle.sap_commands.specs.Commands.{asks};
 ghost use Rattle.sap_files.specs.Steps.{Ends, ending_of, seen};
 
-use crate::compiled::compiled_of_file;
+use sap_compile::design_netlist;
 use sap_desk::Desk;
 use sap_files::failure::Failure;
-use sap_files::{lattice_of_file, print_rows};
+use sap_files::{checked_of_file, lattice_of_file, print_rows};
 use sap_sim::rows_of_run;
 use std::alloc::Global;
 
@@ -21,9 +21,9 @@ pub fn run<'a, D: Desk>(
 ) -> Result<(), Failure<'a>>
     ensures { Ends (asks (run lattice.now design.now stimulus.now)) (ending_of result) (seen D.told D.faults D.lost D.sure desk.old) (seen D.told D.faults D.lost D.sure desk.new) }
 {
-    let file = lattice_of_file(alloc, desk, lattice)?;
-    let compiled = compiled_of_file(alloc, desk, &file.bytes, design)?;
-    let (checked, netlist) = compiled.into_parts();
-    rows_of_run(checked.lattice(), checked.design(), &netlist);
-    print_rows(alloc, desk, checked.lattice(), netlist, stimulus)
+    let levels = lattice_of_file(alloc, desk, lattice)?;
+    let checked = checked_of_file(alloc, desk, &levels, design)?;
+    let netlist = design_netlist(alloc, &checked)?;
+    rows_of_run(&levels, checked.design(), &netlist);
+    print_rows(alloc, desk, &levels, netlist, stimulus)
 }

@@ -4,10 +4,10 @@ ghost use Rattle.sap_words.specs.Words.{trace};
 ghost use Rattle.sap_commands.specs.Commands.{asks};
 ghost use Rattle.sap_files.specs.Steps.{Ends, ending_of, seen};
 
-use crate::compiled::compiled_of_file;
+use sap_compile::design_netlist;
 use sap_desk::Desk;
 use sap_files::failure::Failure;
-use sap_files::{lattice_of_file, print_trace};
+use sap_files::{checked_of_file, lattice_of_file, print_trace};
 use std::alloc::Global;
 
 /// Prints the trace of a design file on a stimulus file, over a lattice file.
@@ -20,8 +20,8 @@ pub fn trace_design<'a, D: Desk>(
 ) -> Result<(), Failure<'a>>
     ensures { Ends (asks (trace lattice.now design.now stimulus.now)) (ending_of result) (seen D.told D.faults D.lost D.sure desk.old) (seen D.told D.faults D.lost D.sure desk.new) }
 {
-    let file = lattice_of_file(alloc, desk, lattice)?;
-    let compiled = compiled_of_file(alloc, desk, &file.bytes, design)?;
-    let (checked, netlist) = compiled.into_parts();
+    let levels = lattice_of_file(alloc, desk, lattice)?;
+    let checked = checked_of_file(alloc, desk, &levels, design)?;
+    let netlist = design_netlist(alloc, &checked)?;
     print_trace(alloc, desk, &checked, netlist, stimulus)
 }

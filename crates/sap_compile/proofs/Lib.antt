@@ -2,3 +2,4 @@ pub mod Paths
 pub mod Agreeing
 pub mod Compared
 pub mod Faults
+pub mod Texts

@@ -26,3 +26,7 @@ pub record IsModuleFor (ls : Levels) (d : DesignTree) (net : Net) (text : List �
   pub looks_alike : RunsLookAlike ls d net
   pub tidy : IsTidy (port_names net) net
   pub small : IsSmall ls d net
+
+-- The netlist is that of a module for the design.
+abbrev pub IsNetlistFor : Levels → DesignTree → Net → Type 0
+IsNetlistFor ls d net = (text : List ℕ) × IsModuleFor ls d net text

@@ -12,4 +12,4 @@ pub mod stages;
 pub use compiled::Compiled;
 pub use compiler::compile;
 pub use fault::CompileFault;
-pub use module::design_netlist;
+pub use module::{design_netlist, module_text};

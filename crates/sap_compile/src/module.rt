@@ -3,11 +3,12 @@
 ghost use Rattle.std.specs.Prelude.{◌≡◌, IfOk};
 ghost use Rattle.sap_check.specs.Checked.{levels_in, tree_in};
 ghost use Rattle.sap_compile.specs.Agree.{RunsAgree, RunsLookAlike};
-ghost use Rattle.sap_compile.specs.Compiles.{IsModuleFor};
+ghost use Rattle.sap_compile.specs.Compiles.{IsModuleFor, IsNetlistFor};
 ghost use Rattle.sap_compile.specs.Parts.{checked_of, hang_of, module_of, netlist_of};
 ghost use Rattle.sap_compile.specs.Runs.{HasOneRunOnStreams};
 ghost use Rattle.sap_hang.specs.Hang.{IsHangTable};
 ghost use Rattle.sap_interface.specs.Designs.{StandsForDesign, StartsAsDesign};
+ghost use Rattle.sap_net.specs.Net.{Net};
 ghost use Rattle.sap_size.specs.Items.{IsSmall};
 ghost use Rattle.sap_trim.specs.Reads.{ReadsWires};
 ghost use Rattle.sap_share.specs.Copying.{CopiesPorts};
@@ -16,6 +17,7 @@ ghost use Rattle.sap_trim.specs.Trimmed.{FoldsWires, SharesWires};
 use crate::compiled::Compiled;
 use crate::stages::netlist;
 use sap_check::Checked;
+use sap_desk::Bytes;
 use sap_hang::HangTable;
 use sap_hang::hang::hang;
 use sap_net::laws::one_run;
@@ -57,6 +59,22 @@ fn netlist_for(alloc: Global, checked: &Checked, hang: &HangTable) -> Result<Net
     netlist(alloc, &plain)
 }
 
+/// The netlist of the module of a checked design.
+fn module_netlist(
+    alloc: Global,
+    checked: &Checked,
+    hang: &HangTable,
+) -> Result<Netlist, AllocError>
+    requires { IsHangTable (tree_in checked.now) hang.now }
+    ensures { IfOk result (λ n. IsNetlistFor (levels_in checked.now) (tree_in checked.now) n) }
+{
+    checked.lawful();
+    let netlist = netlist_for(alloc, checked, hang)?;
+    runs(checked, &netlist);
+    netlist.rules();
+    Ok(netlist)
+}
+
 /// The small netlist of a checked design.
 pub fn design_netlist(alloc: Global, checked: &Checked) -> Result<Netlist, AllocError>
     ensures stands { IfOk result (λ n. StandsForDesign (levels_in checked.now) (tree_in checked.now) n) }
@@ -66,9 +84,18 @@ pub fn design_netlist(alloc: Global, checked: &Checked) -> Result<Netlist, Alloc
     ensures read { IfOk result (λ n. ReadsWires n) }
     ensures copies { IfOk result (λ n. CopiesPorts n) }
     ensures small { IfOk result (λ n. IsSmall (levels_in checked.now) (tree_in checked.now) n) }
+    ensures compiled { IfOk result (λ n. IsNetlistFor (levels_in checked.now) (tree_in checked.now) n) }
 {
     let hang = hang(alloc, checked.design(), checked.names())?;
-    netlist_for(alloc, checked, &hang)
+    module_netlist(alloc, checked, &hang)
+}
+
+/// The text of the module of a checked design.
+pub fn module_text(alloc: Global, checked: &Checked) -> Result<Bytes, AllocError>
+    ensures { IfOk result (λ text. (n : Net) × IsModuleFor (levels_in checked.now) (tree_in checked.now) n text) }
+{
+    let netlist = design_netlist(alloc, checked)?;
+    print(alloc, &netlist)
 }
 
 /// Compiles a checked design.
@@ -77,10 +104,8 @@ pub(crate) fn module(alloc: Global, checked: Checked) -> Result<Compiled, AllocE
     ensures hang { IfOk result (λ c. IsHangTable (tree_in checked) (hang_of c)) }
     ensures compiled { IfOk result (λ c. IsModuleFor (levels_in checked) (tree_in checked) (netlist_of c) (module_of c)) }
 {
-    checked.lawful();
     let hang = hang(alloc, checked.design(), checked.names())?;
-    let netlist = netlist_for(alloc, &checked, &hang)?;
-    runs(&checked, &netlist);
+    let netlist = module_netlist(alloc, &checked, &hang)?;
     let module = print(alloc, &netlist)?;
     Ok(Compiled {
         checked,

@@ -22,8 +22,8 @@ use Rattle.sap_wave.specs.declared.fault.WaveFault.TheVariants as wave_fault
 use Rattle.sap_files.specs.declared.fault.DesignFault.TheVariants as design_fault
 use Rattle.sap_files.specs.Ending.{Ending, Refusal as Reason, done, refused, failed, no_memory, lattice_refused, design_refused, part_refused, system_refused, wires_refused, stimulus_refused, module_refused, taint_refused, level_refused, lengths_apart, inputs_apart, wave_refused, asm_refused, IsFree}
 use Rattle.sap_files.specs.Tainting.{HasTaintOf, IsTaintedText}
-use Rattle.sap_files.specs.Contents.{IsLatticeFile, IsWellFormedText, table_by}
-use Rattle.sap_files.specs.Kinds.{Kind, design_file, lattice_file}
+use Rattle.sap_files.specs.Contents.{IsWellFormedText, table_by}
+use Rattle.sap_files.specs.Kinds.{Kind, design_file}
 use Rattle.sap_stim.specs.declared.field.Field.{Field}
 use Rattle.sap_stim.specs.Stimulus.{stimulus_of}
 use Rattle.sap_lines.specs.Stepping.Followed.{IsPartShown}
@@ -31,7 +31,6 @@ use Rattle.sap_lines.specs.Stepping.Pace.{Shows as ShowsOf}
 use Rattle.sap_files.specs.Asks.{Asks, Cause, IsPrefix, Leaves, MayEnd, Output}
 use Rattle.sap_files.specs.After.{Blames, Stands}
 use Rattle.sap_files.specs.Outside.{IsUnreadable, OutsideOf}
-use Rattle.sap_files.specs.declared.files.LatticeFile.{LatticeFile}
 use Rattle.sap_files.specs.declared.failure.Failure.{Failure}
 use Rattle.sap_files.specs.declared.failure.Failure.TheVariants.{Refused, Desk, PartFile, Memory}
 use Rattle.sap_files.specs.declared.refusal.Refusal.{Refusal}
@@ -231,12 +230,7 @@ abbrev pub Gets : (name : List ℕ) (k : Kind) → {T : Type 0} → (T → k.Val
 Gets name k value (Ok x) before after = (bytes : List ℕ) × Reads name bytes before after × k.Stands bytes (value x)
 Gets name k value (Err e) before after = EndsReading name k (ending e) before after
 
--- The same of a lattice file, whose bytes are kept.
-abbrev pub GetsLattice : (name : List ℕ) → Result LatticeFile Failure → Moment → Moment → Type 0
-GetsLattice name (Ok f) before after = Reads name f.bytes before after × IsLatticeFile f.bytes (whole f.lattice)
-GetsLattice name (Err e) before after = EndsReading name lattice_file (ending e) before after
-
--- And of a design file over the levels of a lattice.
+-- The same of a design file over the levels of a lattice.
 abbrev pub GetsChecked : Levels → (name : List ℕ) → Result Checked Failure → Moment → Moment → Type 0
 GetsChecked ls name (Ok c) before after = (bytes : List ℕ) × Reads name bytes before after
     × IsWellFormedText ls bytes (tree_in c) × (levels_in c ≡ ls)

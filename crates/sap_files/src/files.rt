@@ -5,9 +5,9 @@ ghost use Rattle.sap_check.specs.Checked.{levels_in, tree_in};
 ghost use Rattle.sap_stim.specs.Line.{IsSized};
 ghost use Rattle.sap_stim.specs.Stimulus.{stimulus_of};
 ghost use Rattle.sap_tree.specs.Designs.{design_of as tree_of};
-ghost use Rattle.sap_files.specs.Kinds.{assembly_file, design_text_file, module_file, stream_by, stream_file, wave_file};
+ghost use Rattle.sap_files.specs.Kinds.{assembly_file, design_text_file, lattice_file, module_file, stream_by, stream_file, wave_file};
 ghost use Rattle.sap_files.specs.Designs.{GetsDesign};
-ghost use Rattle.sap_files.specs.Steps.{Gets, GetsChecked, GetsLattice, seen};
+ghost use Rattle.sap_files.specs.Steps.{Gets, GetsChecked, seen, whole};
 
 use crate::comparing::stream_of;
 use crate::failure::{DesignFailure, Failure};
@@ -17,7 +17,7 @@ use crate::inputs::{
 };
 use sap_check::Checked;
 use sap_cpu::words::Words;
-use sap_desk::{Bytes, Desk};
+use sap_desk::Desk;
 use sap_lattice::Lattice;
 use sap_net::netlist::Netlist;
 use sap_stim::Fields;
@@ -26,26 +26,16 @@ use sap_tree::design::Design;
 use sap_wave::Wave;
 use std::alloc::Global;
 
-/// A lattice file that was read.
-#[derive(Drop)]
-pub struct LatticeFile {
-    pub bytes: Bytes,
-    pub lattice: Lattice,
-}
-
 /// Reads a lattice file.
 pub fn lattice_of_file<'a, D: Desk>(
     alloc: Global,
     desk: &mut D,
     name: &'a str,
-) -> Result<LatticeFile, Failure<'a>>
-    ensures { GetsLattice name.now result (seen D.told D.faults D.lost D.sure desk.old) (seen D.told D.faults D.lost D.sure desk.new) }
+) -> Result<Lattice, Failure<'a>>
+    ensures { Gets name.now lattice_file whole result (seen D.told D.faults D.lost D.sure desk.old) (seen D.told D.faults D.lost D.sure desk.new) }
 {
     let bytes = read(alloc, desk, name)?;
-    match lattice_from(alloc, &bytes) {
-        Ok(lattice) => Ok(LatticeFile { bytes, lattice }),
-        Err(failure) => Err(failure),
-    }
+    lattice_from(alloc, &bytes)
 }
 
 /// Reads a design file, without a lattice.

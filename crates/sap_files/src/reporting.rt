@@ -31,12 +31,12 @@ pub fn report_design<'a, D: Desk>(
 ) -> Result<(), Failure<'a>>
     ensures { Ends (asks_report lattice.now design.now) (ending_of result) (seen D.told D.faults D.lost D.sure desk.old) (seen D.told D.faults D.lost D.sure desk.new) }
 {
-    let file = lattice_of_file(alloc, desk, lattice)?;
-    let checked = checked_of_file(alloc, desk, &file.lattice, design)?;
+    let levels = lattice_of_file(alloc, desk, lattice)?;
+    let checked = checked_of_file(alloc, desk, &levels, design)?;
     let made = report_text(alloc, &checked);
     // The design gives its memory back before its report is written.
     drop(checked);
-    drop(file);
+    drop(levels);
     let text = made?;
     put(desk, &text)
 }

@@ -19,7 +19,7 @@ pub fn simulate<'a, D: Desk>(
 ) -> Result<(), Failure<'a>>
     ensures { Ends (asks_simulated lattice.now verilog.now stimulus.now) (ending_of result) (seen D.told D.faults D.lost D.sure desk.old) (seen D.told D.faults D.lost D.sure desk.new) }
 {
-    let file = lattice_of_file(alloc, desk, lattice)?;
+    let levels = lattice_of_file(alloc, desk, lattice)?;
     let netlist = module_of_file(alloc, desk, verilog)?;
-    print_rows(alloc, desk, &file.lattice, netlist, stimulus)
+    print_rows(alloc, desk, &levels, netlist, stimulus)
 }

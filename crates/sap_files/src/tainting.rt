@@ -56,8 +56,8 @@ pub fn taint<'a, D: Desk>(
 ) -> Result<(), Failure<'a>>
     ensures { Ends (asks_taint lattice.now verilog.now out.now) (ending_of result) (seen D.told D.faults D.lost D.sure desk.old) (seen D.told D.faults D.lost D.sure desk.new) }
 {
-    let file = lattice_of_file(alloc, desk, lattice)?;
+    let levels = lattice_of_file(alloc, desk, lattice)?;
     let netlist = module_of_file(alloc, desk, verilog)?;
-    let text = tainted_text(alloc, &file.lattice, &netlist)?;
+    let text = tainted_text(alloc, &levels, &netlist)?;
     write(desk, out, &text)
 }

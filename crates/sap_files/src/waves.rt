@@ -73,9 +73,9 @@ pub fn wave<'a, D: Desk>(
 ) -> Result<(), Failure<'a>>
     ensures { Ends (asks_wave lattice.now verilog.now stimulus.now out.now) (ending_of result) (seen D.told D.faults D.lost D.sure desk.old) (seen D.told D.faults D.lost D.sure desk.new) }
 {
-    let file = lattice_of_file(alloc, desk, lattice)?;
+    let levels = lattice_of_file(alloc, desk, lattice)?;
     let netlist = module_of_file(alloc, desk, verilog)?;
-    record(alloc, desk, &file.lattice, netlist, stimulus, out)
+    record(alloc, desk, &levels, netlist, stimulus, out)
 }
 
 /// Writes the rows of a value change dump, over a lattice file, one after another. All memory is taken before the first is written.
@@ -87,9 +87,9 @@ pub fn unwave<'a, D: Desk>(
 ) -> Result<(), Failure<'a>>
     ensures { Ends (asks_unwave lattice.now dump.now) (ending_of result) (seen D.told D.faults D.lost D.sure desk.old) (seen D.told D.faults D.lost D.sure desk.new) }
 {
-    let file = lattice_of_file(alloc, desk, lattice)?;
+    let levels = lattice_of_file(alloc, desk, lattice)?;
     let wave = wave_of_file(alloc, desk, dump)?;
-    let mut rows = BlockRows::new(alloc, &file.lattice, &wave)?;
+    let mut rows = BlockRows::new(alloc, &levels, &wave)?;
     let mut waiting = RowBuf::new(alloc, LARGE_BYTES)?;
     put_pieces(desk, &mut rows, &mut waiting)
 }

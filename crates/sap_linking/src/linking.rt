@@ -89,11 +89,11 @@ pub fn link<'a, D: Desk>(
 ) -> Result<(), Failure<'a>>
     ensures { Ends (asks_link lattice.now system.now out.now) (ending_of result) (seen D.told D.faults D.lost D.sure desk.old) (seen D.told D.faults D.lost D.sure desk.new) }
 {
-    let file = lattice_of_file(alloc, desk, lattice)?;
+    let levels = lattice_of_file(alloc, desk, lattice)?;
     let listed = system_of_file(alloc, desk, system)?;
-    match load_parts(alloc, desk, &file.lattice, listed.parts()) {
+    match load_parts(alloc, desk, &levels, listed.parts()) {
         Ok(loaded) => {
-            let text = linked_text(alloc, &file.lattice, &listed, &loaded)?;
+            let text = linked_text(alloc, &levels, &listed, &loaded)?;
             write(desk, out, &text)
         }
         Err(stopped) => Err(failure_at(listed, stopped)),

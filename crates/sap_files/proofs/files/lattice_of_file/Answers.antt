@@ -1,4 +1,7 @@
 use Rattle.sap_lemmas.proofs.Common.{inl, err_from_is_err_and}
+use Rattle.sap_files.specs.Kinds.{lattice_file}
+use Rattle.sap_files.specs.Steps.{whole}
+use Rattle.sap_files.proofs.Reading.{gets}
 use Rattle.sap_files.proofs.files.lattice_of_file.Goals as goal
 
 pub returns-in_err-bytes : goal.returns-in_err-bytes
@@ -6,5 +9,5 @@ returns-in_err-bytes g c =
     let p = err_from_is_err_and c.from_residual.result c.from_residual.ensures.1 in
     rw (p.1, p.2) (inl c.in_err-bytes.ensures.read)
 
-pub returns-in-Ok : goal.returns-in-Ok
-returns-in-Ok g c = (c.in_ok-bytes.ensures.read, c.in-Ok.ensures)
+pub returns : goal.returns
+returns g c = gets lattice_file whole c.lattice_from.result c.in_ok-bytes.ensures.read c.lattice_from.ensures

@@ -8,23 +8,23 @@ use Rattle.sap_files.proofs.NetsAlike.{read_net_in, simulated_in}
 use Rattle.sap_files.proofs.PrintedEnds.{printed_same}
 use Rattle.sap_files.proofs.simulating.simulate.Goals as goal
 
-pub returns-in_err-file : goal.returns-in_err-file
-returns-in_err-file g c =
+pub returns-in_err-levels : goal.returns-in_err-levels
+returns-in_err-levels g c =
     let p = err_from_is_err_and c.from_residual.result c.from_residual.ensures.1 in
-    rw (p.1, p.2) (reading_ended c.in_err-file.ensures)
+    rw (p.1, p.2) (reading_ended c.in_err-levels.ensures)
 
 pub returns-in_err-netlist : goal.returns-in_err-netlist
 returns-in_err-netlist g c =
     let p = err_from_is_err_and c.from_residual-in_err-netlist.result c.from_residual-in_err-netlist.ensures.1 in
-    rw (p.1, p.2) (past (whole c.in_ok-file.file.lattice) c.in_ok-file.ensures.0 c.in_ok-file.ensures.1 (reading_ended c.in_err-netlist.ensures))
+    rw (p.1, p.2) (past (whole c.in_ok-levels.levels) c.in_ok-levels.ensures.1 c.in_ok-levels.ensures.2 (reading_ended c.in_err-netlist.ensures))
 
 pub returns : goal.returns
 returns g c =
-    let k = c.in_ok-file.file.lattice in
+    let k = c.in_ok-levels.levels in
     let ls = whole k in
     let n = c.in_ok-netlist.netlist in
-    let same = whole_same c.in_ok-file.file.bytes k c.in_ok-file.ensures.1 in
-    past ls c.in_ok-file.ensures.0 c.in_ok-file.ensures.1
+    let same = whole_same c.in_ok-levels.ensures.0 k c.in_ok-levels.ensures.2 in
+    past ls c.in_ok-levels.ensures.1 c.in_ok-levels.ensures.2
     (got n c.in_ok-netlist.ensures
     (printed_same c.args.stimulus.now (AreModuleRows k n) (AreModuleRows ls n) (λ bytes. (module_stimulus k n bytes).fault) (λ bytes. (module_stimulus ls n bytes).fault)
     (λ bytes given rows. (rows.0, simulated_in k ls same n bytes _ rows.1))

@@ -5,20 +5,20 @@ use Rattle.sap_files.proofs.Lattices.{whole_same}
 use Rattle.sap_files.proofs.Dumps.{run_asked_in}
 use Rattle.sap_files.proofs.waves.wave.Goals as goal
 
-pub returns-in_err-file : goal.returns-in_err-file
-returns-in_err-file g c =
+pub returns-in_err-levels : goal.returns-in_err-levels
+returns-in_err-levels g c =
     let p = err_from_is_err_and c.from_residual.result c.from_residual.ensures.1 in
-    rw (p.1, p.2) (reading_ended c.in_err-file.ensures)
+    rw (p.1, p.2) (reading_ended c.in_err-levels.ensures)
 
 pub returns-in_err-netlist : goal.returns-in_err-netlist
 returns-in_err-netlist g c =
     let p = err_from_is_err_and c.from_residual-in_err-netlist.result c.from_residual-in_err-netlist.ensures.1 in
-    rw (p.1, p.2) (past (whole c.in_ok-file.file.lattice) c.in_ok-file.ensures.0 c.in_ok-file.ensures.1 (reading_ended c.in_err-netlist.ensures))
+    rw (p.1, p.2) (past (whole c.in_ok-levels.levels) c.in_ok-levels.ensures.1 c.in_ok-levels.ensures.2 (reading_ended c.in_err-netlist.ensures))
 
 pub returns : goal.returns
 returns g c =
-    let k = c.in_ok-file.file.lattice in
+    let k = c.in_ok-levels.levels in
     let n = c.in_ok-netlist.netlist in
-    let same = whole_same c.in_ok-file.file.bytes k c.in_ok-file.ensures.1 in
-    past (whole k) c.in_ok-file.ensures.0 c.in_ok-file.ensures.1
+    let same = whole_same c.in_ok-levels.ensures.0 k c.in_ok-levels.ensures.2 in
+    past (whole k) c.in_ok-levels.ensures.1 c.in_ok-levels.ensures.2
     (got n c.in_ok-netlist.ensures (run_asked_in k (whole k) same c.args.stimulus.now c.args.out.now n _ _ _ c.record.ensures))

@@ -10,15 +10,15 @@ use Rattle.sap_linking.proofs.Loading.{read_as}
 use Rattle.sap_linking.proofs.Steps.{linked, not_linked, not_listed, stopped}
 use Rattle.sap_linking.proofs.linking.link.Goals as goal
 
-pub returns-in_err-file : goal.returns-in_err-file
-returns-in_err-file g c =
+pub returns-in_err-levels : goal.returns-in_err-levels
+returns-in_err-levels g c =
     let p = err_from_is_err_and c.from_residual.result c.from_residual.ensures.1 in
-    rw (p.1, p.2) (reading_ended c.in_err-file.ensures)
+    rw (p.1, p.2) (reading_ended c.in_err-levels.ensures)
 
 pub returns-in_err-listed : goal.returns-in_err-listed
 returns-in_err-listed g c =
     let p = err_from_is_err_and c.from_residual-in_err-listed.result c.from_residual-in_err-listed.ensures.1 in
-    rw (p.1, p.2) (not_listed _ _ _ c.in_ok-file.file.lattice c.in_ok-file.ensures.0 c.in_ok-file.ensures.1 c.in_err-listed.ensures)
+    rw (p.1, p.2) (not_listed _ _ _ c.in_ok-levels.levels c.in_ok-levels.ensures.1 c.in_ok-levels.ensures.2 c.in_err-listed.ensures)
 
 pub linked_text-requires-clause-names : goal.linked_text-requires-clause-names
 linked_text-requires-clause-names g c =
@@ -27,17 +27,17 @@ linked_text-requires-clause-names g c =
 
 pub returns-in_err-text-in-Ok : goal.returns-in_err-text-in-Ok
 returns-in_err-text-in-Ok g c =
-    let k = c.in_ok-file.file.lattice in
+    let k = c.in_ok-levels.levels in
     let p = err_from_is_err_and c.from_residual-in_err-text-in-Ok.result c.from_residual-in_err-text-in-Ok.ensures.1 in
     rw (p.1, p.2)
-    (not_linked _ _ _ k c.in_ok-file.ensures.0 c.in_ok-file.ensures.1 c.in_ok-listed.listed c.in_ok-listed.ensures c.parts.result.now c.parts.ensures
+    (not_linked _ _ _ k c.in_ok-levels.ensures.1 c.in_ok-levels.ensures.2 c.in_ok-listed.listed c.in_ok-listed.ensures c.parts.result.now c.parts.ensures
     (loaded_designs c.deref.result.now) _ (read_as c.deref.result.now c.deref.ensures.value c.in-Ok.ensures.read)
     c.in_err-text-in-Ok.ensures)
 
 pub returns-in-Ok : goal.returns-in-Ok
 returns-in-Ok g c =
-    let k = c.in_ok-file.file.lattice in
-    linked _ _ _ k c.in_ok-file.ensures.0 c.in_ok-file.ensures.1 c.in_ok-listed.listed c.in_ok-listed.ensures c.parts.result.now c.parts.ensures
+    let k = c.in_ok-levels.levels in
+    linked _ _ _ k c.in_ok-levels.ensures.1 c.in_ok-levels.ensures.2 c.in_ok-listed.listed c.in_ok-listed.ensures c.parts.result.now c.parts.ensures
     (loaded_designs c.deref.result.now) _ (read_as c.deref.result.now c.deref.ensures.value c.in-Ok.ensures.read)
     c.in_ok-text-in-Ok.ensures c.write.ensures
 
@@ -48,5 +48,5 @@ failure_at-requires g c =
 
 pub returns : goal.returns
 returns g c =
-    stopped _ _ _ c.in_ok-file.file.lattice c.in_ok-file.ensures.0 c.in_ok-file.ensures.1 c.in_ok-listed.listed c.in_ok-listed.ensures c.parts.result.now c.parts.ensures
+    stopped _ _ _ c.in_ok-levels.levels c.in_ok-levels.ensures.1 c.in_ok-levels.ensures.2 c.in_ok-listed.listed c.in_ok-listed.ensures c.parts.result.now c.parts.ensures
     c.in-Err.stopped.place c.in-Err.stopped.why c.failure_at.result c.in-Err.ensures.stopped c.failure_at.ensures
