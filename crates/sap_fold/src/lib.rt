@@ -2,11 +2,11 @@
 #![tactic(auto)]
 
 mod absorb;
-mod fold;
+pub mod fold;
 pub mod folding;
 mod order;
 mod parts;
-mod rules;
+pub mod rules;
 mod see;
 pub mod slices;
 mod under;

@@ -1,5 +1,5 @@
 -- What holds of wires as one is added holds of them as a program is lowered.
-use Rattle.sap_lemmas.proofs.Common.{ℕ, Bool, true, false, List, [], ◌∷◌, if◌then◌else◌}
+use Rattle.sap_lemmas.proofs.Common.{ℕ, Bool, true, false, List, [], ◌∷◌, Option, Some, None, if◌then◌else◌}
 use Rattle.sap_bits.specs.declared.Op2.{Op2}
 use Rattle.sap_maps.specs.Prelude.{Name, Term, cell, one, two, choose, join, part}
 use Rattle.sap_net.specs.Rules.{Shapes}
@@ -13,8 +13,9 @@ use Rattle.sap_lower.specs.declared.parts.Part.{Part}
 use Rattle.sap_lower.specs.declared.parts.WritePort.{WritePort}
 use Rattle.sap_lower.specs.declared.lowering.Lowering.{Lowering}
 use Rattle.sap_lower.specs.Facts.{is_zero}
-use Rattle.sap_lower.specs.Lowering.{nothing, Low, plus, leaves_nothing, low_two, sliced, is_outside, low_slice, low}
-use Rattle.sap_lower.specs.Commands.{entries_plain, entries_under, port_of, taken_over, low_set, low_put, low_action, low_command, low_commands}
+use Rattle.sap_lower.specs.Lowering.{nothing, present, Low, plus, copied, placed, calculated, leaves_nothing, low_two, sliced, is_outside, low_slice, low}
+use Rattle.sap_fold.specs.Folding.{same_operand, settled}
+use Rattle.sap_lower.specs.Commands.{chosen_unless, entries_plain, entries_under, port_of, taken_over, low_set, low_put, low_action, low_command, low_commands}
 
 -- of wires before and after: where none is added, where some are and then others, and where one is
 pub record OfEach (R : List Wire → List Wire → Type 0) : Type 0 where
@@ -29,8 +30,16 @@ module _ (R : List Wire → List Wire → Type 0) (each : OfEach R) where
   none_or true ws p after h = each.none ws
   none_or false ws p after h = h
 
+  placed_added : (o : Option Operand) (ws : List Wire) (u : ℕ) (r : Right) → R ws (placed o ws u r).wires
+  placed_added (Some o) ws u r = each.none ws
+  placed_added None ws u r = each.wire ws u r
+
+  pub calculated_added : (ws : List Wire) (u : ℕ) (r : Right) → R ws (calculated ws u r).wires
+  unfolding calculated
+  calculated_added ws u r = placed_added (copied (settled u r)) ws u r
+
   pub two_added : (op : Op2) (x y : Part) (ws : List Wire) → R ws (low_two op x y ws).wires
-  two_added op x y ws = none_or (leaves_nothing op x.width y.operand) ws _ _ (each.wire ws _ _)
+  two_added op x y ws = none_or (leaves_nothing op x.width y.operand) ws _ _ (calculated_added ws _ _)
 
   sliced_added : (o : Operand) (hi lo : ℕ) (ws : List Wire) → R ws (sliced o hi lo ws).wires
   sliced_added (Named x) hi lo ws = each.wire ws _ _
@@ -45,7 +54,7 @@ module _ (R : List Wire → List Wire → Type 0) (each : OfEach R) where
       each.both ws y.wires _ (low_added ms es i ws) (each.wire y.wires _ _)
   low_added ms es (one op a) ws =
       let x = low ms es a ws in
-      each.both ws x.wires _ (low_added ms es a ws) (each.wire x.wires _ _)
+      each.both ws x.wires _ (low_added ms es a ws) (calculated_added x.wires _ _)
   low_added ms es (two op a b) ws =
       let x = low ms es a ws in
       let y = low ms es b x.wires in
@@ -54,7 +63,7 @@ module _ (R : List Wire → List Wire → Type 0) (each : OfEach R) where
       let z = low ms es c ws in
       let x = low ms es a z.wires in
       let y = low ms es b x.wires in
-      let made = each.wire y.wires x.part.width (Choose z.part.operand x.part.operand y.part.operand) in
+      let made = calculated_added y.wires x.part.width (Choose z.part.operand x.part.operand y.part.operand) in
       each.both ws z.wires _ (low_added ms es c ws) (each.both z.wires x.wires _ (low_added ms es a z.wires) (each.both x.wires y.wires _ (low_added ms es b x.wires) made))
   low_added ms es (join a b) ws =
       let x = low ms es a ws in
@@ -67,13 +76,19 @@ module _ (R : List Wire → List Wire → Type 0) (each : OfEach R) where
 
   -- commands
 
+  pub unless_added : (kept : Bool) (es : List (Name × Part)) (n : Name) (c a : Operand) (ws : List Wire) → R ws (chosen_unless kept es n c a ws).wires
+  unless_added true es n c a ws = each.none ws
+  unless_added false es n c a ws = each.wire ws _ _
+
   set_added : (ms : Shapes) (s : Lowering) (c : Term Name) (n : Name) (t : Term Name) → R s.wires (low_set ms s c n t).wires
   set_added ms s c n t =
       let es = entries_plain s.entries in
       let z = low ms es c s.wires in
       let seen = entries_under z s.entries in
       let x = low ms seen t z.wires in
-      each.both s.wires z.wires _ (low_added ms es c s.wires) (each.both z.wires x.wires _ (low_added ms seen t z.wires) (each.wire x.wires _ _))
+      let same = same_operand x.part.operand (present seen n).operand in
+      let last = unless_added same s.entries n z.part.operand x.part.operand x.wires in
+      each.both s.wires z.wires _ (low_added ms es c s.wires) (each.both z.wires x.wires _ (low_added ms seen t z.wires) last)
 
   pub over_added : (first : Bool) (ws : List Wire) (w : ℕ) (c n o : Operand) → R ws (taken_over first ws w c n o).wires
   over_added true ws w c n o = each.none ws

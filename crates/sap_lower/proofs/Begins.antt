@@ -1,15 +1,15 @@
 -- How a cycle begins: what each name and each write port stand for at first.
-use Rattle.sap_lemmas.proofs.Common.{◌≡◌, ℕ, zero, suc, ◌^◌, ◌<◌, ◌≤◌, ◌==◌, List, [], ◌∷◌, ◌++◌, map, Option, Some, true, sym, ap, ◌∙◌, subst, refl, arith, inl, inr, append_assoc, bytes_eq, AllByRecursion, pow_pos, cases_Bool, Decides-eqb, same_power, equal_of_bytes_eq}
+use Rattle.sap_lemmas.proofs.Common.{if◌then◌else◌, ◌≡◌, ℕ, zero, suc, ◌^◌, ◌<◌, ◌≤◌, ◌==◌, List, [], ◌∷◌, ◌++◌, map, Option, Some, Bool, true, false, sym, ap, ◌∙◌, subst, refl, arith, inl, inr, append_assoc, bytes_eq, AllByRecursion, pow_pos, cases_Bool, Decides-eqb, same_power, equal_of_bytes_eq}
 use Rattle.sap_lemmas.proofs.Numbers.{below_unequal}
 use Rattle.sap_maps.specs.Prelude.{Name, Valuation, Scope, find}
-use Rattle.sap_net.specs.Prelude.{Shapes, InputsAre}
-use Rattle.sap_net.specs.declared.parts.Operand.TheVariants.{Constant}
+use Rattle.sap_net.specs.Prelude.{is_among, Shapes, InputsAre, operand_value, operand_width}
+use Rattle.sap_net.specs.declared.parts.Operand.TheVariants.{Named, Constant}
 use Rattle.sap_ir.specs.Prelude.{Source, first_number, register_number, number_at_start, first_cell, cell_at_start}
 use Rattle.sap_ir.specs.declared.guarded.Var.{Var}
 use Rattle.sap_ir.specs.declared.guarded.MemoryVariable.{MemoryVariable}
 use Rattle.sap_lower.specs.declared.parts.Part.{Part}
 use Rattle.sap_lower.specs.declared.parts.WritePort.{WritePort}
-use Rattle.sap_lower.specs.Lowered.{named_entry, zero_entry, first_entries, first_port, bits_within, index_bits, input_of}
+use Rattle.sap_lower.specs.Lowered.{named_entry, targets, register_entry, zero_entry, first_entries, first_port, bits_within, index_bits, input_of}
 use Rattle.sap_lower.proofs.Means.{Env}
 
 abbrev pub scope_of : List Var → Scope
@@ -30,21 +30,38 @@ env_zero widths v (x ∷ xs) n u f =
       | inr d ↦ rw d (env_zero widths v xs n u (rw d at f))
     ]
 
-env_registers : (widths : Name → ℕ) (v : Valuation) (before : Option Valuation) (rs : List Var) (sc : Scope) (es : List (Name × Part))
-    → AllByRecursion (λ x. v.value x.name ≡ first_number before x) rs → AllByRecursion (IsKnown widths v) rs → Env widths v sc es (λ n. 0)
-    → Env widths v (scope_of rs ++ sc) (map named_entry rs ++ es) (register_number before rs)
-env_registers widths v before [] sc es a b env n u f = env n u f
-env_registers widths v before (x ∷ rs) sc es a b env n u f =
+-- x has its start, if it is none of the assigned names
+abbrev pub KeepsIfUnassigned : (assigned : List Name) → Valuation → Var → Type 0
+KeepsIfUnassigned assigned v x = is_among x.name assigned ≡ false → v.value x.name ≡ x.start
+
+either_value : (v : Valuation) (x : Var) (b : Bool) → (b ≡ false → v.value x.name ≡ x.start)
+    → operand_value v (if b then Named x.name else Constant x.width x.start) ≡ v.value x.name
+either_value v x true f = refl
+either_value v x false f = sym (f refl)
+
+either_wide : (widths : Name → ℕ) (x : Var) (b : Bool) → widths x.name ≡ x.width → operand_width widths (if b then Named x.name else Constant x.width x.start) ≡ x.width
+either_wide widths x true e = e
+either_wide widths x false e = refl
+
+env_registers : (widths : Name → ℕ) (v : Valuation) (before : Option Valuation) (assigned : List Name) (rs : List Var) (sc : Scope) (es : List (Name × Part))
+    → AllByRecursion (λ x. v.value x.name ≡ first_number before x) rs → AllByRecursion (KeepsIfUnassigned assigned v) rs → AllByRecursion (IsKnown widths v) rs
+    → Env widths v sc es (λ n. 0) → Env widths v (scope_of rs ++ sc) (map (register_entry assigned) rs ++ es) (register_number before rs)
+env_registers widths v before assigned [] sc es a k b env n u f = env n u f
+env_registers widths v before assigned (x ∷ rs) sc es a keeps b env n u f =
     elim (cases_Bool (bytes_eq x.name n)) [
       | inl t ↦
           let q : Some x.width ≡ Some u = rw t at f in
           let k : x.width ≡ u = cc in
           rw t (record {
-            shows = record { value = a.0; wide = b.0.0 ∙ k; width = k };
+            shows = record {
+              value = either_value v x (is_among x.name assigned) keeps.0 ∙ a.0;
+              wide = either_wide widths x (is_among x.name assigned) b.0.0 ∙ k;
+              width = k;
+            };
             below =
                 subst (λ (w : ℕ). first_number before x < 2 ^ w) k (subst (λ (y : ℕ). y < 2 ^ x.width) a.0 b.0.1);
           })
-      | inr d ↦ rw d (env_registers widths v before rs sc es a.1 b.1 env n u (rw d at f))
+      | inr d ↦ rw d (env_registers widths v before assigned rs sc es a.1 keeps.1 b.1 env n u (rw d at f))
     ]
 
 env_inputs : (s : Source) (widths : Name → ℕ) (v : Valuation) (before : Option Valuation) (is : List Var) (xs : List ℕ) (sc : Scope)
@@ -63,15 +80,18 @@ env_inputs s widths v before (i ∷ is) (x ∷ xs) sc es a b env n u f =
 
 pub env_first : (s : Source) (widths : Name → ℕ) (v : Valuation) (before : Option Valuation) (xs : List ℕ)
     → InputsAre v (map input_of s.inputs) xs → AllByRecursion (IsKnown widths v) s.inputs
-    → AllByRecursion (λ x. v.value x.name ≡ first_number before x) s.registers → AllByRecursion (IsKnown widths v) s.registers
+    → AllByRecursion (λ x. v.value x.name ≡ first_number before x) s.registers → AllByRecursion (KeepsIfUnassigned (targets s.commands) v) s.registers
+    → AllByRecursion (IsKnown widths v) s.registers
     → Env widths v (scope_of s.inputs ++ scope_of s.registers ++ scope_of s.wires) (first_entries s) (number_at_start s before s.inputs xs)
-env_first s widths v before xs given inputs starts registers =
+env_first s widths v before xs given inputs starts keeps registers =
     let zeros = env_zero widths v s.wires in
-    let rs = env_registers widths v before s.registers (scope_of s.wires) (map zero_entry s.wires) starts registers zeros in
-    let all = env_inputs s widths v before s.inputs xs (scope_of s.registers ++ scope_of s.wires) (map named_entry s.registers ++ map zero_entry s.wires) given inputs rs in
+    let rs = env_registers widths v before (targets s.commands) s.registers (scope_of s.wires) (map zero_entry s.wires) starts keeps registers zeros in
+    let all = env_inputs s widths v before s.inputs xs (scope_of s.registers ++ scope_of s.wires)
+    (map (register_entry (targets s.commands)) s.registers ++ map zero_entry s.wires) given inputs rs in
     subst (λ (es : List (Name × Part)). Env widths v (scope_of s.inputs ++ scope_of s.registers ++ scope_of s.wires) es (number_at_start s before s.inputs xs))
-    (sym (append_assoc (map named_entry s.inputs) (map named_entry s.registers) (map zero_entry s.wires)))
-    (subst (λ (sc : Scope). Env widths v sc (map named_entry s.inputs ++ (map named_entry s.registers ++ map zero_entry s.wires)) (number_at_start s before s.inputs xs))
+    (sym (append_assoc (map named_entry s.inputs) (map (register_entry (targets s.commands)) s.registers) (map zero_entry s.wires)))
+    (subst (λ (sc : Scope). Env widths v sc (map named_entry s.inputs ++ (map (register_entry (targets s.commands)) s.registers ++ map zero_entry s.wires))
+    (number_at_start s before s.inputs xs))
     (sym (append_assoc (scope_of s.inputs) (scope_of s.registers) (scope_of s.wires))) all)
 
 -- memories

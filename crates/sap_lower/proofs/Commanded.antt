@@ -31,16 +31,19 @@ module _ (ms : Shapes) (l : Lowering) (c : Term Name) (w1 : List Wire) (z : Part
 
   pub set_lowered : (x : Name) (a : Term Name) (w2 : List Wire) (y : Part)
       → w2 ≡ (low ms (entries_seen (take b w1) fs l.entries) a w1).wires → y ≡ (low ms (entries_seen (take b w1) fs l.entries) a w1).part
-      → assigned l x (chosen l.entries x z.operand y.operand w2) ≡ low_action ms l c (set x a)
-  set_lowered x a w2 y e f =
+      → take b w2 ≡ take b w1
+      → assigned l x (chosen (entries_seen (take b w2) fs l.entries) l.entries x z.operand y.operand w2) ≡ low_action ms l c (set x a)
+  set_lowered x a w2 y e f front =
       let value = low ms seen a gate.wires in
       let wires : w2 ≡ value.wires =
       e ∙ ap (λ (q : List (Name × Part)). (low ms q a w1).wires) known ∙ ap (λ (u : List Wire). (low ms seen a u).wires) gate_wires in
       let part : y ≡ value.part =
       f ∙ ap (λ (q : List (Name × Part)). (low ms q a w1).part) known ∙ ap (λ (u : List Wire). (low ms seen a u).part) gate_wires in
-      ap (λ (p : Part). assigned l x (chosen l.entries x p.operand y.operand w2)) gate_part
-      ∙ ap (λ (p : Part). assigned l x (chosen l.entries x gate.part.operand p.operand w2)) part
-      ∙ ap (λ (u : List Wire). assigned l x (chosen l.entries x gate.part.operand value.part.operand u)) wires
+      let known2 : entries_seen (take b w2) fs l.entries ≡ seen = ap (λ (u : List Wire). entries_seen u fs l.entries) front ∙ known in
+      ap (λ (q : List (Name × Part)). assigned l x (chosen q l.entries x z.operand y.operand w2)) known2
+      ∙ ap (λ (p : Part). assigned l x (chosen seen l.entries x p.operand y.operand w2)) gate_part
+      ∙ ap (λ (p : Part). assigned l x (chosen seen l.entries x gate.part.operand p.operand w2)) part
+      ∙ ap (λ (u : List Wire). assigned l x (chosen seen l.entries x gate.part.operand value.part.operand u)) wires
 
   pub put_lowered : (m : Name) (i a : Term Name) (w2 w3 : List Wire) (j y : Part)
       → w2 ≡ (low ms (entries_seen (take b w1) fs l.entries) i w1).wires → j ≡ (low ms (entries_seen (take b w1) fs l.entries) i w1).part

@@ -13,10 +13,12 @@ use Rattle.sap_lower.specs.Facts.{facts_of, is_zero}
 use Rattle.sap_lower.specs.Lowering.{nothing, present, plus, low}
 use Rattle.sap_share.specs.Tables.{replaced}
 use Rattle.sap_lower.specs.declared.lowering.Lowering.{Lowering}
-use Rattle.sap_lower.specs.Commands.{entries_plain, entries_under, no_port, port_of, taken_over, low_set, low_put, low_action, low_command, low_commands}
+use Rattle.sap_fold.specs.Folding.{same_operand}
+use Rattle.sap_lower.specs.declared.parts.Part.{Part}
+use Rattle.sap_lower.specs.Commands.{chosen_unless, entries_plain, entries_under, no_port, port_of, taken_over, low_set, low_put, low_action, low_command, low_commands}
 use Rattle.sap_lower.proofs.Stands.{HasEntries, replaced_same, replaced_other, replaced_has}
 use Rattle.sap_lower.proofs.Standing.{ActionOk, CommandOk}
-use Rattle.sap_lower.proofs.Adding.{commands_added}
+use Rattle.sap_lower.proofs.Adding.{commands_added, unless_added}
 use Rattle.sap_lower.proofs.SeenFits.{env_seen_fits}
 use Rattle.sap_lower.proofs.Fits.{IsLonger, longer, Fits, NoHelpers, EnvFits, env_grows, Lowered, plus_at, plus_long, low_long, low_fits}
 
@@ -60,6 +62,17 @@ commands_long ms cs s = commands_added IsLonger longer ms cs s
 ports_grow : (ms : Shapes) (sc sd : Scope) (ps : List (Name × WritePort)) → Grows sc sd → PortsFit ms sc ps → PortsFit ms sd ps
 ports_grow ms sc sd ps g f m e h = port_grows sc sd g (port_of ps m) e.0 e.1 (f m e h)
 
+unless_fits : (ms : Shapes) (sc : Scope) → NoHelpers ms → (kept : Bool) (es : List (Name × Part)) (n : Name) (c a : Operand) (ws : List Wire) (u : ℕ) → IsWidth u
+    → Fits ms sc ws → IsOperand (readable_after sc ws) u (present es n).operand × ((present es n).width ≡ u) → IsOperand (readable_after sc ws) 1 c
+    → IsOperand (readable_after sc ws) u a → length (chosen_unless kept es n c a ws).wires < 2 ^ 64
+    → Lowered ms sc ws (chosen_unless kept es n c a ws).wires (chosen_unless kept es n c a ws).part u
+unless_fits ms sc apart true es n c a ws u iu fits old oc oa l = record { fits = fits; grows = λ m q h. h; operand = old.0; width = old.1 }
+unless_fits ms sc apart false es n c a ws u iu fits old oc oa l =
+    plus_at ms sc ws (present es n).width u (Choose c a (present es n).operand) old.1 apart fits iu (oc, oa, old.0) l
+
+unless_long : (kept : Bool) (es : List (Name × Part)) (n : Name) (c a : Operand) (ws : List Wire) → length ws ≤ length (chosen_unless kept es n c a ws).wires
+unless_long kept es n c a ws = unless_added IsLonger longer kept es n c a ws
+
 set_fits : (ms : Shapes) (sc vars : Scope) → NoHelpers ms → AllWide vars → (s : Lowering) (c : Term Name) (n : Name) (t : Term Name) (u : ℕ)
     → find vars n ≡ Some u → TermFine ms vars 1 c → TermFine ms vars u t → StateFits ms sc vars s → length (low_set ms s c n t).wires < 2 ^ 64
     → Lowered ms sc s.wires (low_set ms s c n t).wires (low_set ms s c n t).part u
@@ -69,9 +82,8 @@ set_fits ms sc vars apart wide s c n t u found fc ft k l =
     let z = low ms plain c s.wires in
     let seen = entries_under z es in
     let x = low ms seen t z.wires in
-    let o = present es n in
-    let r = Choose z.part.operand x.part.operand o.operand in
-    let e = plus_long x.wires o.width r in
+    let kept = same_operand x.part.operand (present seen n).operand in
+    let e = unless_long kept es n z.part.operand x.part.operand x.wires in
     let lx = low_long ms seen t z.wires in
     let iu = wide n u found in
     let ep = env_seen_fits ms (readable_after sc s.wires) [] tt [] vars es k.env in
@@ -80,9 +92,8 @@ set_fits ms sc vars apart wide s c n t u found fc ft k l =
     let eu = env_seen_fits ms sc z.wires c'.fits.wires (facts_of z.wires z.part.operand) vars es ez in
     let t' = low_fits ms sc vars seen apart u t iu ft z.wires eu c'.fits (omega (arith, e)) in
     let ex = env_grows (readable_after sc z.wires) (readable_after sc x.wires) vars es t'.grows ez in
-    let old = ex n u found in
     let oc = operand_grows (readable_after sc z.wires) (readable_after sc x.wires) t'.grows 1 z.part.operand c'.operand in
-    let p = plus_at ms sc x.wires o.width u r old.1 apart t'.fits iu (oc, t'.operand, old.0) l in
+    let p = unless_fits ms sc apart kept es n z.part.operand x.part.operand x.wires u iu t'.fits (ex n u found) oc t'.operand l in
     record {
       fits = p.fits;
       grows = λ m q h. p.grows m q (t'.grows m q (c'.grows m q h));

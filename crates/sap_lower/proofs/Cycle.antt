@@ -17,7 +17,7 @@ use Rattle.sap_lower.specs.declared.parts.Part.{Part}
 use Rattle.sap_lower.specs.declared.parts.WritePort.{WritePort}
 use Rattle.sap_lower.specs.Lowering.{present}
 use Rattle.sap_lower.specs.Commands.{port_of, no_port}
-use Rattle.sap_lower.specs.Lowered.{first_entries, first_port, input_of, listed, out_wire, register_of, memory_of, registers_declared, first_lowering, last_lowering, lowered}
+use Rattle.sap_lower.specs.Lowered.{targets, register_part, first_entries, first_port, input_of, listed, out_wire, register_of, memory_of, registers_declared, first_lowering, last_lowering, lowered}
 use Rattle.sap_lower.specs.Same.{SameNumbers, RunsAlike}
 use Rattle.sap_lower.proofs.SeenFits.{right_parts, parts_wide}
 use Rattle.sap_lower.proofs.Shared.{Gives}
@@ -25,7 +25,10 @@ use Rattle.sap_lower.proofs.Means.{Env, SameCells, Around, gives_front, gives_be
 use Rattle.sap_lower.proofs.Stands.{HasEntries}
 use Rattle.sap_lower.proofs.Standing.{CommandOk, PortsAre, Standing, Later, commands_stand}
 use Rattle.sap_lower.proofs.Order.{from_declared}
-use Rattle.sap_lower.proofs.Begins.{IsKnown, env_first, cells_first, first_port_found}
+use Rattle.sap_lower.proofs.Begins.{IsKnown, KeepsIfUnassigned, env_first, cells_first, first_port_found}
+use Rattle.sap_lower.proofs.Rules.{found_mapped}
+use Rattle.sap_lower.proofs.Targets.{registers_present, unassigned_part}
+use Rattle.sap_lower.proofs.Whole.{both_hold}
 use Rattle.sap_lower.proofs.Listed.{listed_holds}
 use Rattle.sap_lower.proofs.Inputs.{inputs_same}
 
@@ -94,6 +97,22 @@ registers_begin s k (Some p) (Some e) xs v b c =
     let a = from_declared (λ x. v.value x.name ≡ operand_value p (present es x.name).operand) s.registers s.ports k.registers_differ
     (all_of_map (λ r. v.value r.name ≡ operand_value p r.next) (register_of es) (registers_declared s) c.begins.0) in
     joined_all (λ (x : Var). v.value x.name) (λ x. operand_value p (present es x.name).operand) (λ x. e.value x.name) s.registers a b.registers
+
+-- a register that nothing assigns has its start
+unassigned_begin : (s : Source) → Known s → (p : Option Valuation) (xs : List ℕ) (v : Valuation) → IsCycle (lowered s) p xs v
+    → AllByRecursion (KeepsIfUnassigned (targets s.commands) v) s.registers
+unassigned_begin s k None xs v c =
+    let es = (last_lowering s).entries in
+    let starts = from_declared (λ x. v.value x.name ≡ x.start) s.registers s.ports k.registers_differ
+    (all_of_map (λ r. v.value r.name ≡ r.start) (register_of es) (registers_declared s) c.begins.0) in
+    found_mapped (λ x. v.value x.name ≡ x.start) (KeepsIfUnassigned (targets s.commands) v) s.registers (λ x h u. h) starts
+unassigned_begin s k (Some p) xs v c =
+    let es = (last_lowering s).entries in
+    let next = from_declared (λ x. v.value x.name ≡ operand_value p (present es x.name).operand) s.registers s.ports k.registers_differ
+    (all_of_map (λ r. v.value r.name ≡ operand_value p r.next) (register_of es) (registers_declared s) c.begins.0) in
+    both_hold (λ x. v.value x.name ≡ operand_value p (present es x.name).operand) (λ x. present (first_entries s) x.name ≡ register_part (targets s.commands) x)
+    (KeepsIfUnassigned (targets s.commands) v) s.registers
+    (λ x h f u. h ∙ ap (λ (q : Part). operand_value p q.operand) (unassigned_part s x f u)) next (registers_present s k.rules)
 
 cells_begin : (s : Source) (p e : Option Valuation) (xs : List ℕ) (v : Valuation) → SameBefore s p e → IsCycle (lowered s) p xs v
     → AllByRecursion (λ m. (i : ℕ) → v.cell m.name i ≡ first_cell e m i) s.memories
@@ -185,7 +204,7 @@ cycle_same s k once p e xs v b c =
     let cells = cells_begin s p e xs v b c in
     let below : (m : Name) (d : ℕ × ℕ) → find ms m ≡ Some d → (i : ℕ) → v.cell m i < 2 ^ d.0 =
     λ m d f i. w.cell m d (subst (λ (sh : Shapes). find sh m ≡ Some d) (sym k.shapes) f) i in
-    let env = env_first s widths v e xs c.given known.0 starts known.1 in
+    let env = env_first s widths v e xs c.given known.0 starts (unassigned_begin s k p xs v c) known.1 in
     let memories : SameCells ms v g.now.cell = record { same = cells_first v e s.memories cells; below = below } in
     let around : Around ms vars vw widths v (first_entries s) g.now.value g.now.cell =
     record { declared = source_widths s k.rules.declared_once; env = env; memories = memories } in

@@ -19,8 +19,11 @@ use Rattle.sap_lower.specs.declared.parts.Part.{Part}
 use Rattle.sap_share.specs.Keys.{key}
 use Rattle.sap_share.specs.Names.{helper}
 use Rattle.sap_share.specs.Rights.{rights}
-use Rattle.sap_lower.proofs.Adding.{OfEach, two_added, slice_added, low_added}
-use Rattle.sap_lower.specs.Lowering.{present, shared, plus, leaves_nothing, low_two, sliced, cell_width, low}
+use Rattle.sap_fold.specs.Folding.{settled}
+use Rattle.sap_fold.proofs.Settling.{settled_equals}
+use Rattle.sap_lower.proofs.Adding.{OfEach, two_added, slice_added, low_added, calculated_added}
+use Rattle.sap_lower.specs.Lowering.{present, shared, plus, copied, placed, calculated, leaves_nothing, low_two, sliced, cell_width, low}
+use Rattle.sap_lower.proofs.Calculated.{copied_is}
 use Rattle.sap_lower.proofs.Means.{small_sum, slice_inside}
 use Rattle.sap_share.proofs.Found.{known_readable}
 
@@ -102,6 +105,25 @@ plus_at ms sc ws w u r e apart fits i f l =
     let k : length (plus ws u r).wires < 2 ^ 64 = subst (λ (k : ℕ). length (plus ws k r).wires < 2 ^ 64) e l in
     subst (λ (k : ℕ). Lowered ms sc ws (plus ws k r).wires (plus ws k r).part u) (sym e) (shared_fits ms sc ws u r apart fits i f (find (rights ws) (key u r)) refl k)
 
+-- a calculation, likewise
+
+placed_at : (ms : Shapes) (sc : Scope) (ws : List Wire) (w u : ℕ) (r : Right) (o : Option Operand) → ((p : Operand) → o ≡ Some p → IsOperand (readable_after sc ws) u p) → w ≡ u
+    → NoHelpers ms → Fits ms sc ws → IsWidth u → IsRight ms (readable_after sc ws) u r → length (placed o ws w r).wires < 2 ^ 64
+    → Lowered ms sc ws (placed o ws w r).wires (placed o ws w r).part u
+placed_at ms sc ws w u r (Some p) h e apart fits i f l = record { fits = fits; grows = λ m k g. g; operand = h p refl; width = e }
+placed_at ms sc ws w u r None h e apart fits i f l = plus_at ms sc ws w u r e apart fits i f l
+
+pub calculated_at : (ms : Shapes) (sc : Scope) (ws : List Wire) (w u : ℕ) (r : Right) → w ≡ u → NoHelpers ms → Fits ms sc ws → IsWidth u
+    → IsRight ms (readable_after sc ws) u r → length (calculated ws w r).wires < 2 ^ 64 → Lowered ms sc ws (calculated ws w r).wires (calculated ws w r).part u
+unfolding calculated
+calculated_at ms sc ws w u r e apart fits i f l =
+    let s = settled u r in
+    let fit = (settled_equals ws u r).fits ms sc fits.wires f in
+    let operand = λ (p : Operand) (h : copied (settled w r) ≡ Some p).
+    let k : copied s ≡ Some p = subst (λ (k : ℕ). copied (settled k r) ≡ Some p) e h in
+    subst (λ (q : Right). IsRight ms (readable_after sc ws) u q) (copied_is s p k) fit in
+    placed_at ms sc ws w u r (copied (settled w r)) operand e apart fits i f l
+
 -- no wire is lost
 
 abbrev pub IsLonger : List Wire → List Wire → Type 0
@@ -132,8 +154,9 @@ two_fits ms sc op x y ws w t u apart fits iw it iu ox xw oy cf e l =
           let k : x.width ≡ u = sym g ∙ ap (λ (n : ℕ). width2 op n) xw ∙ sym e in
           rw b (record { fits = fits; grows = λ n q h. h; operand = (k, pow_pos u); width = k })
       | inr b ↦
-          let l' : length (plus ws (width2 op x.width) (Two op x.operand y.operand)).wires < 2 ^ 64 = rw b at l in
-          let p = plus_at ms sc ws (width2 op x.width) u (Two op x.operand y.operand) (ap (λ (n : ℕ). width2 op n) xw ∙ sym e) apart fits iu (w, t, iw, it, ox, oy, cf, e) l' in
+          let l' : length (calculated ws (width2 op x.width) (Two op x.operand y.operand)).wires < 2 ^ 64 = rw b at l in
+          let p = calculated_at ms sc ws (width2 op x.width) u (Two op x.operand y.operand)
+          (ap (λ (n : ℕ). width2 op n) xw ∙ sym e) apart fits iu (w, t, iw, it, ox, oy, cf, e) l' in
           rw b p
     ]
 
@@ -166,10 +189,10 @@ low_fits ms sc vars es apart u (cell m i) iu f ws env fits l =
     followed ms sc ws y.wires _ y.part _ f.0 u i' p
 low_fits ms sc vars es apart u (one op a) iu f ws env fits l =
     let x = low ms es a ws in
-    let e = plus_long x.wires (width1 op x.part.width) (One op x.part.operand) in
+    let e = calculated_added IsLonger longer x.wires (width1 op x.part.width) (One op x.part.operand) in
     let a' = low_fits ms sc vars es apart f.0 a f.1 f.2 ws env fits (omega (arith, e)) in
     let w : width1 op x.part.width ≡ u = ap (λ (n : ℕ). width1 op n) a'.width ∙ sym f.3 in
-    let p = plus_at ms sc x.wires (width1 op x.part.width) u (One op x.part.operand) w apart a'.fits iu (f.0, f.1, a'.operand, f.3) l in
+    let p = calculated_at ms sc x.wires (width1 op x.part.width) u (One op x.part.operand) w apart a'.fits iu (f.0, f.1, a'.operand, f.3) l in
     followed ms sc ws x.wires _ x.part _ f.0 u a' p
 low_fits ms sc vars es apart u (two op a b) iu f ws env fits l =
     let x = low ms es a ws in
@@ -185,7 +208,7 @@ low_fits ms sc vars es apart u (choose c a b) iu f ws env fits l =
     let z = low ms es c ws in
     let x = low ms es a z.wires in
     let y = low ms es b x.wires in
-    let e = plus_long y.wires x.part.width (Choose z.part.operand x.part.operand y.part.operand) in
+    let e = calculated_added IsLonger longer y.wires x.part.width (Choose z.part.operand x.part.operand y.part.operand) in
     let lb = low_long ms es b x.wires in
     let la = low_long ms es a z.wires in
     let c' = low_fits ms sc vars es apart 1 c (omega arith, omega arith) f.0 ws env fits (omega (arith, e, lb, la)) in
@@ -196,7 +219,7 @@ low_fits ms sc vars es apart u (choose c a b) iu f ws env fits l =
     let oc = operand_grows (readable_after sc x.wires) (readable_after sc y.wires) b'.grows 1 z.part.operand
     (operand_grows (readable_after sc z.wires) (readable_after sc x.wires) a'.grows 1 z.part.operand c'.operand) in
     let oa = operand_grows (readable_after sc x.wires) (readable_after sc y.wires) b'.grows u x.part.operand a'.operand in
-    let p = plus_at ms sc y.wires x.part.width u (Choose z.part.operand x.part.operand y.part.operand) a'.width apart b'.fits iu (oc, oa, b'.operand) l in
+    let p = calculated_at ms sc y.wires x.part.width u (Choose z.part.operand x.part.operand y.part.operand) a'.width apart b'.fits iu (oc, oa, b'.operand) l in
     followed ms sc ws y.wires _ y.part _ u u (followed ms sc ws x.wires y.wires x.part y.part u u (followed ms sc ws z.wires x.wires z.part x.part 1 u c' a') b') p
 low_fits ms sc vars es apart u (join a b) iu f ws env fits l =
     let x = low ms es a ws in

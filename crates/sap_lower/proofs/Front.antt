@@ -10,9 +10,9 @@ use Rattle.sap_share.specs.Names.{helper}
 use Rattle.sap_share.specs.Rights.{rights}
 use Rattle.sap_lower.specs.declared.parts.Part.{Part}
 use Rattle.sap_lower.specs.declared.facts.Fact.{Fact}
-use Rattle.sap_lower.specs.Lowering.{shared, low_two, low}
+use Rattle.sap_lower.specs.Lowering.{shared, calculated, low_two, low}
 use Rattle.sap_lower.specs.Reads.{entries_seen}
-use Rattle.sap_lower.proofs.Adding.{OfEach, low_added}
+use Rattle.sap_lower.proofs.Adding.{OfEach, calculated_added, low_added}
 
 -- the first so many wires are as before
 pub record KeepsFront (b : ℕ) (ws xs : List Wire) : Type 0 where
@@ -37,6 +37,9 @@ module _ (b : ℕ) where
         both = both_front;
         wire = λ ws u r. shared_front ws u r (find (rights ws) (key u r));
       }
+
+  pub calculated_kept : (ws : List Wire) (u : ℕ) (r : Right) → KeepsFront b ws (calculated ws u r).wires
+  calculated_kept ws u r = calculated_added (KeepsFront b) fronts ws u r
 
   pub low_kept : (ms : Shapes) (es : List (Name × Part)) (t : Term Name) (ws : List Wire) → KeepsFront b ws (low ms es t ws).wires
   low_kept ms es t ws = low_added (KeepsFront b) fronts ms es t ws
@@ -73,3 +76,15 @@ pub longer_ok : {A E : Type 0} (r : Result A E) (b : ℕ) (ms : Shapes) (es : Li
     → OnOk r (new ≡ (low ms es t ws).wires) → OnOk r (b ≤ length new)
 longer_ok (Ok x) b ms es t ws new l h = subst (λ (u : List Wire). b ≤ length u) (sym h) (low_longer b ms es t ws l)
 longer_ok (Err e) b ms es t ws new l h = tt
+
+-- so they are where one that makes a calculation does
+
+pub calculated_front_ok : {A E : Type 0} (r : Result A E) (b : ℕ) (ws xs new : List Wire) (u : ℕ) (q : Right) → b ≤ length xs → take b xs ≡ take b ws
+    → OnOk r (new ≡ (calculated xs u q).wires) → OnOk r (take b new ≡ take b ws)
+calculated_front_ok (Ok x) b ws xs new u q l f h = ap (λ (y : List Wire). take b y) h ∙ (calculated_kept b xs u q).front l ∙ f
+calculated_front_ok (Err e) b ws xs new u q l f h = tt
+
+pub calculated_longer_ok : {A E : Type 0} (r : Result A E) (b : ℕ) (xs new : List Wire) (u : ℕ) (q : Right) → b ≤ length xs
+    → OnOk r (new ≡ (calculated xs u q).wires) → OnOk r (b ≤ length new)
+calculated_longer_ok (Ok x) b xs new u q l h = subst (λ (y : List Wire). b ≤ length y) (sym h) ((calculated_kept b xs u q).longer l)
+calculated_longer_ok (Err e) b xs new u q l h = tt

@@ -13,7 +13,7 @@ use Rattle.sap_net.specs.declared.parts.Wire.{Wire}
 use Rattle.sap_lower.specs.declared.facts.Fact.{Fact}
 use Rattle.sap_lower.specs.declared.facts.Fact.TheVariants.{IsSet, Equals}
 use Rattle.sap_lower.specs.Facts.{right_if_named, right_numbered, right_of, is_zero, told_by_test, test_facts, of_operand, tests, told_by_gate, gate_facts, facts_of, gates}
-use Rattle.sap_lower.specs.Reads.{sets, clears, differs, is_set, is_clear, is_other, of_name, right_denied, test_denied, gate_denied, excluded, chosen_part, seen_through, seen, choices}
+use Rattle.sap_lower.specs.Reads.{sets, clears, differs, is_set, is_clear, is_other, of_name, right_denied, test_denied, gate_denied, excluded, nonzero, right_opened, named_opened, opened, chosen_part, seen_through, seen, choices}
 use Rattle.sap_lower.proofs.Shared.{Gives, PartsWide}
 
 -- numbers
@@ -219,9 +219,33 @@ module _ (widths : Name → ℕ) (v : Valuation) (ws : List Wire) (given : Gives
         ]
     excluded_wrong (suc k) (Constant w x) d h = absurd (cc)
 
-    open_is : (o : Operand) → of_name (is_set fs) o ≡ true → (operand_value v o == 0) ≡ false
-    open_is (Named n) h = is_on n h
-    open_is (Constant w x) h = absurd (cc)
+    nonzero_is : (o : Operand) → nonzero fs o ≡ true → (operand_value v o == 0) ≡ false
+    nonzero_is (Named n) h = is_on n h
+    nonzero_is (Constant w x) h = not_true (x == 0) h
+
+    right_on : (outer : Operand → Bool) → ((o : Operand) → outer o ≡ true → (operand_value v o == 0) ≡ false) → (n : Name) (o : Option Right) → right_of ws n ≡ o
+        → right_opened fs outer o ≡ true → (v.value n == 0) ≡ false
+    right_on outer on n (Some (Choose c t z)) e h =
+        let p = and_split (nonzero fs t) (outer c) h in
+        let around : (operand_value v c == 0) ≡ false = on c p.1 in
+        let told = (right_told n (Choose c t z) e).value in
+        let g : v.value n ≡ operand_value v t = rw around at told in
+        subst (λ (k : ℕ). (k == 0) ≡ false) (sym g) (nonzero_is t p.0)
+    right_on outer on n _ e h = absurd (cc)
+
+    named_on : (outer : Operand → Bool) → ((o : Operand) → outer o ≡ true → (operand_value v o == 0) ≡ false) → (o : Operand)
+        → named_opened ws fs outer o ≡ true → (operand_value v o == 0) ≡ false
+    named_on outer on (Named n) h = right_on outer on n (right_of ws n) refl h
+    named_on outer on (Constant w x) h = absurd (cc)
+
+    opened_on : (k : ℕ) (o : Operand) → opened k ws fs o ≡ true → (operand_value v o == 0) ≡ false
+    unfolding opened
+    opened_on zero o h = absurd (cc)
+    opened_on (suc k) o h =
+        or_split (nonzero fs o) (named_opened ws fs (opened k ws fs) o) h (λ x. nonzero_is o x) (λ x. named_on (opened k ws fs) (λ p g. opened_on k p g) o x)
+
+    open_is : (o : Operand) → opened gates ws fs o ≡ true → (operand_value v o == 0) ≡ false
+    open_is o h = opened_on gates o h
 
     closed_is : (o : Operand) → excluded gates ws fs o ≡ true → (operand_value v o == 0) ≡ true
     closed_is o h = elim (cases_Bool (operand_value v o == 0)) [ inl t ↦ t | inr f ↦ absurd (excluded_wrong gates o h f) ]
@@ -231,7 +255,7 @@ module _ (widths : Name → ℕ) (v : Valuation) (ws : List Wire) (given : Gives
         → operand_value v (chosen_part ws fs again (Named n) o) ≡ v.value n
     part_value again same n (Some (Choose c a b)) e =
         let told = (right_told n (Choose c a b) e).value in
-        elim (cases_Bool (of_name (is_set fs) c)) [
+        elim (cases_Bool (opened gates ws fs c)) [
           | inl t ↦
               let on = open_is c t in
               let g : v.value n ≡ operand_value v a = rw on at told in
@@ -260,7 +284,7 @@ module _ (widths : Name → ℕ) (v : Valuation) (ws : List Wire) (given : Gives
       → right_of ws n ≡ o → operand_width widths (chosen_part ws fs again (Named n) o) ≡ widths n
   part_wide fs again same n (Some (Choose c a b)) e =
       let told = (right_told n (Choose c a b) e).wide in
-      elim (cases_Bool (of_name (is_set fs) c)) [
+      elim (cases_Bool (opened gates ws fs c)) [
         | inl t ↦ rw t (same a ∙ told.0)
         | inr f ↦ elim (cases_Bool (excluded gates ws fs c)) [ inl t ↦ rw (f, t) (same b ∙ told.1) | inr d ↦ rw (f, d) refl ]
       ]

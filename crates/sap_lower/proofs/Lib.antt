@@ -1,3 +1,4 @@
+pub mod Unchanged
 pub mod Commanded
 pub mod Under
 pub mod Known
@@ -6,6 +7,7 @@ pub mod Entries
 pub mod Front
 pub mod Shared
 pub mod Glue
+pub mod Calculated
 pub mod Adding
 pub mod Means
 pub mod Stands
@@ -16,6 +18,7 @@ pub mod CommandsFit
 pub mod Order
 pub mod Begins
 pub mod Inputs
+pub mod Targets
 pub mod Cycle
 pub mod Declares
 pub mod Steps

@@ -5,14 +5,14 @@ use Rattle.sap_bits.specs.declared.Op2.{Op2}
 use Rattle.sap_bits.specs.declared.Op2.TheVariants.{Shl, Shr}
 use Rattle.sap_bits.proofs.Low.{shl_past, shr_past}
 use Rattle.sap_bits.proofs.Within.{value1_below, value2_below}
-use Rattle.sap_maps.specs.Prelude.{Name, Valuation, Scope, find, Term, constant, read, cell, one, two, choose, join, part, term_width}
+use Rattle.sap_maps.specs.Prelude.{Name, Valuation, Scope, find, Term, constant, read, cell, one, two, choose, join, part, term_width, CountFits}
 use Rattle.sap_maps.specs.Term.{term_value}
 use Rattle.sap_maps.proofs.Terms.{right_fits, below_both, joined_below}
-use Rattle.sap_net.specs.Prelude.{Shapes, operand_value, operand_width, right_value}
+use Rattle.sap_net.specs.Prelude.{Shapes, IsWidth, operand_value, operand_width, right_value}
 use Rattle.sap_net.specs.declared.parts.Operand.{Operand}
 use Rattle.sap_net.specs.declared.parts.Operand.TheVariants.{Named, Constant}
 use Rattle.sap_net.specs.declared.parts.Right.{Right}
-use Rattle.sap_net.specs.declared.parts.Right.TheVariants.{One, Two, Choose, Concat, Slice, Cell}
+use Rattle.sap_net.specs.declared.parts.Right.TheVariants.{Copy, One, Two, Choose, Concat, Slice, Cell}
 use Rattle.sap_net.specs.declared.parts.Wire.{Wire}
 use Rattle.sap_ir.specs.IsGuarded.{TermFine}
 use Rattle.sap_ir.proofs.Passes.{WidthsDeclared, fine_width}
@@ -20,8 +20,10 @@ use Rattle.sap_lower.specs.declared.parts.Part.{Part}
 use Rattle.sap_share.specs.Keys.{key}
 use Rattle.sap_share.specs.Names.{helper}
 use Rattle.sap_share.specs.Rights.{rights}
-use Rattle.sap_lower.proofs.Adding.{OfEach, two_added, slice_added, low_added}
-use Rattle.sap_lower.specs.Lowering.{present, shared, plus, is_past, leaves_nothing, low_two, sliced, is_outside, low_join, cell_width, low}
+use Rattle.sap_fold.specs.Folding.{settled}
+use Rattle.sap_lower.proofs.Adding.{OfEach, two_added, slice_added, low_added, calculated_added}
+use Rattle.sap_lower.proofs.Calculated.{Within, Folds, copied_is, one_folds, two_folds, choice_folds}
+use Rattle.sap_lower.specs.Lowering.{present, shared, plus, copied, placed, calculated, is_past, leaves_nothing, low_two, sliced, is_outside, low_join, cell_width, low}
 use Rattle.sap_lower.proofs.Shared.{Gives, known_gives}
 
 -- a part has this width and value
@@ -86,6 +88,28 @@ GivesBefore widths v ws xs = Gives widths v xs → Gives widths v ws
 pub front : (widths : Name → ℕ) (v : Valuation) → OfEach (GivesBefore widths v)
 front widths v = record { none = λ ws h. h; both = λ ws xs ys f g h. f (g h); wire = plus_front widths v }
 
+-- a calculation stands for its right side
+
+pub within : (widths : Name → ℕ) (v : Valuation) (p : Part) (u x : ℕ) → Stands widths v p u x → Within widths v p.operand u
+within widths v p u x s = record { wide = s.shows.wide; below = subst (λ (n : ℕ). n < 2 ^ u) (sym s.shows.value) s.below }
+
+placed_shows : (widths : Name → ℕ) (v : Valuation) (ws : List Wire) (u : ℕ) (r : Right) (o : Option Operand)
+    → ((p : Operand) → o ≡ Some p → (operand_value v p ≡ right_value widths v r) × (operand_width widths p ≡ u))
+    → Gives widths v (placed o ws u r).wires → Shows widths v (placed o ws u r).part u (right_value widths v r)
+placed_shows widths v ws u r (Some p) f h = let k = f p refl in record { value = k.0; wide = k.1; width = refl }
+placed_shows widths v ws u r None f h = plus_shows widths v ws u r h
+
+calculated_shows : (widths : Name → ℕ) (v : Valuation) (ws : List Wire) (u w : ℕ) (r : Right) → u ≡ w → Folds widths v w r
+    → Gives widths v (calculated ws u r).wires → Shows widths v (calculated ws u r).part u (right_value widths v r)
+unfolding calculated
+calculated_shows widths v ws u w r e f h =
+    let g : Folds widths v u r = subst (λ (k : ℕ). Folds widths v k r) (sym e) f in
+    placed_shows widths v ws u r (copied (settled u r))
+    (λ p k. let c = copied_is (settled u r) p k in (ap (λ (q : Right). right_value widths v q) (sym c) ∙ g.value, g.wide p c)) h
+
+calculated_front : (widths : Name → ℕ) (v : Valuation) (ws : List Wire) (u : ℕ) (r : Right) → Gives widths v (calculated ws u r).wires → Gives widths v ws
+calculated_front widths v ws u r h = calculated_added (GivesBefore widths v) (front widths v) ws u r h
+
 pub slice_inside : (w hi lo : ℕ) → lo ≤ hi → hi < w → w ≤ 64 → is_outside hi lo ≡ false
 slice_inside w hi lo a b c =
     let p : nat_lt hi lo ≡ false = grind (arith, nat_tests) in
@@ -107,9 +131,10 @@ nothing_left v Shl w a o h l = (shl_past a (operand_value v o) w (past_zero v w 
 nothing_left v Shr w a o h l = (shr_past a (operand_value v o) w (past_zero v w o h) l, refl)
 nothing_left v _ w a o h l = absurd (cc)
 
-two_shows : (widths : Name → ℕ) (v : Valuation) (op : Op2) (x y : Part) (ws : List Wire) (w t a b : ℕ) → Stands widths v x w a
-    → Stands widths v y t b → Gives widths v (low_two op x y ws).wires → Shows widths v (low_two op x y ws).part (width2 op w) (value2 op w a b)
-two_shows widths v op x y ws w t a b sx sy h =
+two_shows : (widths : Name → ℕ) (v : Valuation) (op : Op2) (x y : Part) (ws : List Wire) (w t a b : ℕ) → IsWidth w → IsWidth t → CountFits op w t
+    → Stands widths v x w a → Stands widths v y t b → Gives widths v (low_two op x y ws).wires
+    → Shows widths v (low_two op x y ws).part (width2 op w) (value2 op w a b)
+two_shows widths v op x y ws w t a b iw it cf sx sy h =
     elim (cases_Bool (leaves_nothing op x.width y.operand)) [
       | inl e ↦
           let f : leaves_nothing op w y.operand ≡ true = subst (λ (k : ℕ). leaves_nothing op k y.operand ≡ true) sx.shows.width e in
@@ -117,8 +142,9 @@ two_shows widths v op x y ws w t a b sx sy h =
           let q : value2 op w a b ≡ 0 = subst (λ (k : ℕ). value2 op w a k ≡ 0) sy.shows.value z.0 in
           rw e (record { value = sym q; wide = sx.shows.width ∙ sym z.1; width = sx.shows.width ∙ sym z.1 })
       | inr e ↦
-          let g : Gives widths v (plus ws (width2 op x.width) (Two op x.operand y.operand)).wires = rw e at h in
-          let p = plus_shows widths v ws (width2 op x.width) (Two op x.operand y.operand) g in
+          let g : Gives widths v (calculated ws (width2 op x.width) (Two op x.operand y.operand)).wires = rw e at h in
+          let folds = two_folds widths v op x.operand y.operand w t (width2 op w) iw it (within widths v x w a sx) (within widths v y t b sy) cf refl in
+          let p = calculated_shows widths v ws (width2 op x.width) (width2 op w) (Two op x.operand y.operand) (ap (λ (k : ℕ). width2 op k) sx.shows.width) folds g in
           let vx = sx.shows.value in let wx = sx.shows.wide in let ux = sx.shows.width in let vy = sy.shows.value in
           let pv = p.value in let pw = p.wide in
           rw e (record { value = pv ∙ rw (wx, vx, vy) refl; wide = pw ∙ ap (λ (k : ℕ). width2 op k) ux; width = p.width ∙ ap (λ (k : ℕ). width2 op k) ux })
@@ -187,12 +213,13 @@ low_stands ms vars vw widths v es value cells k u (cell m i) f ws h =
     }
 low_stands ms vars vw widths v es value cells k u (one op a) f ws h =
     let x = low ms es a ws in
-    let hx = plus_front widths v x.wires (width1 op x.part.width) (One op x.part.operand) h in
+    let hx = calculated_front widths v x.wires (width1 op x.part.width) (One op x.part.operand) h in
     let sx = low_stands ms vars vw widths v es value cells k f.0 a f.2 ws hx in
-    let p = plus_shows widths v x.wires (width1 op x.part.width) (One op x.part.operand) h in
     let d = fine_width ms vars vw k.declared f.0 a f.2 in
     let tv = term_value vw value cells a in
     let e : width1 op x.part.width ≡ u = ap (λ (n : ℕ). width1 op n) sx.shows.width ∙ sym f.3 in
+    let folds = one_folds widths v op x.part.operand f.0 u f.1 (within widths v x.part f.0 tv sx) f.3 in
+    let p = calculated_shows widths v x.wires (width1 op x.part.width) u (One op x.part.operand) e folds h in
     let q : value1 op (operand_width widths x.part.operand) (operand_value v x.part.operand) ≡ value1 op (term_width vw a) tv =
     ap₂ (λ (n o : ℕ). value1 op n o) (sx.shows.wide ∙ sym d) sx.shows.value in
     record {
@@ -208,7 +235,7 @@ low_stands ms vars vw widths v es value cells k u (two op a b) f ws h =
     let d = fine_width ms vars vw k.declared f.0 a f.4 in
     let ta = term_value vw value cells a in
     let tb = term_value vw value cells b in
-    let p = two_shows widths v op x.part y.part y.wires f.0 f.1 ta tb sx sy h in
+    let p = two_shows widths v op x.part y.part y.wires f.0 f.1 ta tb f.2 f.3 f.6 sx sy h in
     let q : value2 op f.0 ta tb ≡ value2 op (term_width vw a) ta tb = ap (λ (n : ℕ). value2 op n ta tb) (sym d) in
     record {
       shows = record { value = p.value ∙ q; wide = p.wide ∙ sym f.7; width = p.width ∙ sym f.7 };
@@ -219,12 +246,16 @@ low_stands ms vars vw widths v es value cells k u (choose c a b) f ws h =
     let z = low ms es c ws in
     let x = low ms es a z.wires in
     let y = low ms es b x.wires in
-    let hb = plus_front widths v y.wires x.part.width (Choose z.part.operand x.part.operand y.part.operand) h in
+    let r = Choose z.part.operand x.part.operand y.part.operand in
+    let hb = calculated_front widths v y.wires x.part.width r h in
     let ha = low_front widths v ms es b x.wires hb in
     let sz = low_stands ms vars vw widths v es value cells k 1 c f.0 ws (low_front widths v ms es a z.wires ha) in
     let sx = low_stands ms vars vw widths v es value cells k u a f.1 z.wires ha in
     let sy = low_stands ms vars vw widths v es value cells k u b f.2 x.wires hb in
-    let p = plus_shows widths v y.wires x.part.width (Choose z.part.operand x.part.operand y.part.operand) h in
+    let vc = term_value vw value cells c in let va = term_value vw value cells a in let vb = term_value vw value cells b in
+    let folds = choice_folds widths v z.part.operand x.part.operand y.part.operand u
+    (within widths v z.part 1 vc sz) (within widths v x.part u va sx) (within widths v y.part u vb sy) in
+    let p = calculated_shows widths v y.wires x.part.width u r sx.shows.width folds h in
     let e1 = sz.shows.value in let e2 = sx.shows.value in let e3 = sy.shows.value in
     record {
       shows = record { value = p.value ∙ rw (e1, e2, e3) refl; wide = p.wide ∙ sx.shows.width; width = p.width ∙ sx.shows.width };

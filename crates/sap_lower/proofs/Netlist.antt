@@ -1,12 +1,12 @@
 -- The netlist of a program follows the rules of netlists.
-use Rattle.sap_lemmas.proofs.Common.{◌≡◌, ℕ, ◌^◌, ◌<◌, List, [], ◌∷◌, ◌++◌, map, length, Some, None, false, sym, ap, ◌∙◌, subst, refl, inl, inr, append_assoc, if◌then◌else◌, unwrap_or, bytes_eq, AllByRecursion, pow_pos, cases_Bool, equal_of_bytes_eq}
+use Rattle.sap_lemmas.proofs.Common.{◌≡◌, ℕ, ◌^◌, ◌<◌, List, [], ◌∷◌, ◌++◌, map, length, Some, None, Bool, true, false, sym, ap, ◌∙◌, subst, refl, inl, inr, append_assoc, if◌then◌else◌, unwrap_or, bytes_eq, AllByRecursion, pow_pos, cases_Bool, equal_of_bytes_eq}
 use Rattle.sap_net.proofs.NamesLemmas.{not_found, among_each}
 use Rattle.sap_maps.proofs.ScopeLemmas.{found_first, found_second}
 use Rattle.sap_ir.proofs.IsGuardedLemmas.{plain_wide, register_wide}
 use Rattle.sap_maps.specs.Prelude.{Name, Scope, find}
 use Rattle.sap_net.specs.Prelude.{is_among, AreDistinct, IsWidth, IsDepth, IsOperand}
 use Rattle.sap_net.specs.declared.parts.Operand.TheVariants.{Named, Constant}
-use Rattle.sap_ir.specs.Prelude.{Source, Action, set, put, Command, variable_names, memory_names, declared, is_helping, IsMemoryVariable, ActionFine, CommandFine, IsGuarded}
+use Rattle.sap_ir.specs.Prelude.{Source, Action, set, put, Command, variable_names, memory_names, declared, is_helping, IsRegisterVar, IsMemoryVariable, ActionFine, CommandFine, IsGuarded}
 use Rattle.sap_ir.specs.declared.guarded.Var.{Var}
 use Rattle.sap_ir.specs.declared.guarded.MemoryVariable.{MemoryVariable}
 use Rattle.sap_ir.specs.Source as source
@@ -15,7 +15,7 @@ use Rattle.sap_lower.specs.declared.parts.Part.{Part}
 use Rattle.sap_share.specs.Names.{helper}
 use Rattle.sap_lower.specs.Lowering.{present}
 use Rattle.sap_lower.specs.Commands.{no_port, port_of}
-use Rattle.sap_lower.specs.Lowered.{named_entry, zero_entry, first_entries, first_port, index_bits, first_lowering, last_lowering, registers_declared}
+use Rattle.sap_lower.specs.Lowered.{named_entry, targets, register_part, register_entry, zero_entry, first_entries, first_port, index_bits, first_lowering, last_lowering, registers_declared}
 use Rattle.sap_lower.proofs.Standing.{ActionOk, CommandOk}
 use Rattle.sap_lower.proofs.Stands.{HasEntries}
 use Rattle.sap_lower.proofs.Fits.{NoHelpers, EnvFits}
@@ -35,7 +35,7 @@ has_named f n u (x ∷ xs) sc es k h =
       | inr e ↦ let r = has_named f n u xs sc es k (rw e at h) in (r.0, rw e r.1)
     ]
 
-abbrev named_part : Var → Part
+abbrev pub named_part : Var → Part
 named_part x = record { operand = Named x.name; width = x.width }
 
 abbrev zero_part : Var → Part
@@ -53,9 +53,12 @@ pub entries_have : (s : Source) → HasEntries (source.readable s) (first_entrie
 entries_have s n u h =
     let a = append_assoc (scope_of s.inputs) (scope_of s.registers) (scope_of s.wires) in
     let g : find (scope_of s.inputs ++ (scope_of s.registers ++ scope_of s.wires)) n ≡ Some u = subst (λ (sc : Scope). find sc n ≡ Some u) a h in
-    let r = has_named named_part n u s.inputs (scope_of s.registers ++ scope_of s.wires) (map named_entry s.registers ++ map zero_entry s.wires)
-    (λ k. has_named named_part n u s.registers (scope_of s.wires) (map zero_entry s.wires) (λ j. has_zero n u s.wires j) k) g in
-    (r.0, subst (λ (es : List (Name × Part)). find es n ≡ Some r.0) (sym (append_assoc (map named_entry s.inputs) (map named_entry s.registers) (map zero_entry s.wires))) r.1)
+    let r = has_named named_part n u s.inputs (scope_of s.registers ++ scope_of s.wires) (map (register_entry (targets s.commands)) s.registers ++ map zero_entry s.wires)
+    (λ k. has_named (register_part (targets s.commands)) n u s.registers (scope_of s.wires) (map zero_entry s.wires) (λ j. has_zero n u s.wires j) k) g in (
+      r.0,
+      subst (λ (es : List (Name × Part)). find es n ≡ Some r.0)
+          (sym (append_assoc (map named_entry s.inputs) (map (register_entry (targets s.commands)) s.registers) (map zero_entry s.wires))) r.1,
+    )
 
 pub ports_have : (s : Source) → HasEntries (source.shapes s) (map first_port s.memories)
 ports_have s n e h = (port_at_first e, first_port_found s.memories n e h)
@@ -75,6 +78,27 @@ named_fits n u sc (x ∷ xs) sd es k j h =
           let here : find (scope_of (x ∷ xs)) n ≡ Some u = rw t q in
           rw t (subst (λ (y : Name). find sc y ≡ Some u) (sym (equal_of_bytes_eq x.name n t)) (k here), w)
       | inr f ↦ rw f (named_fits n u sc xs sd es (λ g. k (rw f g)) (λ g. j (rw f g)) (rw f at h))
+    ]
+
+either_fits : (sc : Scope) (u : ℕ) (x : Var) (b : Bool) → find sc x.name ≡ Some u → x.width ≡ u → x.start < 2 ^ x.width
+    → IsOperand sc u (if b then Named x.name else Constant x.width x.start)
+either_fits sc u x true f w l = f
+either_fits sc u x false f w l = (w, subst (λ (k : ℕ). x.start < 2 ^ k) w l)
+
+registers_fit : (assigned : List Name) (n : Name) (u : ℕ) (sc : Scope) (xs : List Var) (sd : Scope) (es : List (Name × Part))
+    → AllByRecursion IsRegisterVar xs → (find (scope_of xs) n ≡ Some u → find sc n ≡ Some u)
+    → (find (scope_of xs) n ≡ None → find sd n ≡ Some u → PartFits sc u (present es n)) → find (scope_of xs ++ sd) n ≡ Some u
+    → PartFits sc u (present (map (register_entry assigned) xs ++ es) n)
+registers_fit assigned n u sc [] sd es a k j h = j refl h
+registers_fit assigned n u sc (x ∷ xs) sd es a k j h =
+    elim (cases_Bool (bytes_eq x.name n)) [
+      | inl t ↦
+          let q : Some x.width ≡ Some u = rw t at h in
+          let w : x.width ≡ u = cc in
+          let here : find (scope_of (x ∷ xs)) n ≡ Some u = rw t q in
+          let found : find sc x.name ≡ Some u = subst (λ (y : Name). find sc y ≡ Some u) (sym (equal_of_bytes_eq x.name n t)) (k here) in
+          rw t (either_fits sc u x (is_among x.name assigned) found w a.0.1, w)
+      | inr f ↦ rw f (registers_fit assigned n u sc xs sd es a.1 (λ g. k (rw f g)) (λ g. j (rw f g)) (rw f at h))
     ]
 
 zero_fits : (n : Name) (u : ℕ) (sc : Scope) (xs : List Var) → find (scope_of xs) n ≡ Some u → PartFits sc u (present (map zero_entry xs) n)
@@ -102,18 +126,20 @@ same_behind (e ∷ es) fs gs n h = ap (λ o. if bytes_eq e.0 n then Some e.1 els
 pub first_found : (s : Source) (n : Name) → find (first_scope s) n ≡ find (scope_of s.inputs ++ scope_of s.registers) n
 first_found s n = same_behind (scope_of s.inputs) (scope_of (registers_declared s)) (scope_of s.registers) n (registers_scope s n)
 
-first_env : (s : Source) → EnvFits (first_scope s) (source.readable s) (first_entries s)
-first_env s n u h =
+first_env : (s : Source) → IsGuarded s → EnvFits (first_scope s) (source.readable s) (first_entries s)
+first_env s i n u h =
     let is = scope_of s.inputs in
     let rs = scope_of s.registers in
     let ws = scope_of s.wires in
     let sc = first_scope s in
     let g : find (is ++ (rs ++ ws)) n ≡ Some u = subst (λ (sd : Scope). find sd n ≡ Some u) (append_assoc is rs ws) h in
-    let r = named_fits n u sc s.inputs (rs ++ ws) (map named_entry s.registers ++ map zero_entry s.wires)
+    let assigned = targets s.commands in
+    let r = named_fits n u sc s.inputs (rs ++ ws) (map (register_entry assigned) s.registers ++ map zero_entry s.wires)
     (λ k. found_first is (scope_of (registers_declared s)) n u k)
-    (λ z k. named_fits n u sc s.registers ws (map zero_entry s.wires) (λ j. found_second is (scope_of (registers_declared s)) n z
+    (λ z k. registers_fit assigned n u sc s.registers ws (map zero_entry s.wires) i.registers (λ j. found_second is (scope_of (registers_declared s)) n z
     ∙ registers_scope s n ∙ j) (λ y j. zero_fits n u sc s.wires j) k) g in
-    subst (λ (es : List (Name × Part)). PartFits sc u (present es n)) (sym (append_assoc (map named_entry s.inputs) (map named_entry s.registers) (map zero_entry s.wires))) r
+    subst (λ (es : List (Name × Part)). PartFits sc u (present es n))
+    (sym (append_assoc (map named_entry s.inputs) (map (register_entry assigned) s.registers) (map zero_entry s.wires))) r
 
 -- widths
 
@@ -217,7 +243,7 @@ pub last_fits : (s : Source) → IsGuarded s → length (last_lowering s).wires 
 last_fits s g l =
     let first : StateFits (source.shapes s) (first_scope s) (source.readable s) (first_lowering s) = record {
       fits = record { wires = tt; named = tt; helping = tt; fresh = λ k a b. no_helping_value s g k b; others = λ n h. refl };
-      env = first_env s;
+      env = first_env s g;
       has = entries_have s;
       has_ports = ports_have s;
       ports = first_ports_fit s g (first_scope s);

@@ -87,11 +87,11 @@ same_found rs ps n =
     ap (λ (es : List (Name × Var)). find es n) e
     ∙ both (is_among n ps) (find (under_names rs) n) (under_names (picked rs ps)) (under_names (unlisted ps rs)) n (picked_found rs ps n) (unlisted_found ps rs n)
 
-abbrev of_option : {X : Type 0} → (Var → X) → Option Var → Option X
+abbrev pub of_option : {X : Type 0} → (Var → X) → Option Var → Option X
 of_option f None = None
 of_option f (Some x) = Some (f x)
 
-find_under : {X : Type 0} (f : Var → X) (xs : List Var) (n : Name) → find (map (λ x. (x.name, f x)) xs) n ≡ of_option f (find (under_names xs) n)
+pub find_under : {X : Type 0} (f : Var → X) (xs : List Var) (n : Name) → find (map (λ x. (x.name, f x)) xs) n ≡ of_option f (find (under_names xs) n)
 find_under f [] n = refl
 find_under f (x ∷ xs) n =
     elim (cases_Bool (bytes_eq x.name n)) [ inl t ↦ rw t refl | inr e ↦ rw e (find_under f xs n) ]

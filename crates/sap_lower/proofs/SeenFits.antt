@@ -15,7 +15,7 @@ use Rattle.sap_lower.specs.declared.facts.Fact.{Fact}
 use Rattle.sap_lower.specs.declared.parts.Part.{Part}
 use Rattle.sap_lower.specs.Facts.{right_if_named, right_numbered, right_of, gates}
 use Rattle.sap_lower.specs.Lowering.{present}
-use Rattle.sap_lower.specs.Reads.{of_name, is_set, excluded, chosen_part, seen_through, choices, entries_seen}
+use Rattle.sap_lower.specs.Reads.{opened, excluded, chosen_part, seen_through, choices, entries_seen}
 use Rattle.sap_lower.proofs.Entries.{present_seen}
 use Rattle.sap_lower.proofs.Fits.{EnvFits}
 use Rattle.sap_lower.proofs.Shared.{PartsWide}
@@ -80,7 +80,7 @@ module _ (ms : Shapes) (sc : Scope) (ws : List Wire) (wires : AreWires ms sc ws)
       let found : find (readable_after sc ws) n ≡ Some told.width = told.found in
       let same : told.width ≡ u = cc in
       let parts = subst (λ (k : ℕ). PartsFit (readable_after sc ws) k (Choose c a b)) same told.parts in
-      elim (cases_Bool (of_name (is_set fs) c)) [
+      elim (cases_Bool (opened gates ws fs c)) [
         | inl t ↦ rw t (fits a parts.0)
         | inr f ↦ elim (cases_Bool (excluded gates ws fs c)) [ inl t ↦ rw (f, t) (fits b parts.1) | inr d ↦ rw (f, d) h ]
       ]

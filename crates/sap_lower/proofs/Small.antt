@@ -24,9 +24,11 @@ use Rattle.sap_share.specs.Keys.{key}
 use Rattle.sap_share.specs.Names.{helper}
 use Rattle.sap_share.specs.Rights.{rights}
 use Rattle.sap_lower.specs.Facts.{is_zero}
-use Rattle.sap_lower.specs.Lowering.{nothing, present, Low, shared, plus, leaves_nothing, low_two, sliced, is_outside, low_slice, cell_width, low_join, low}
+use Rattle.sap_fold.specs.Folding as folding
+use Rattle.sap_fold.specs.Folding.{same_operand}
+use Rattle.sap_lower.specs.Lowering.{nothing, present, Low, shared, plus, copied, placed, calculated, leaves_nothing, low_two, sliced, is_outside, low_slice, cell_width, low_join, low}
 use Rattle.sap_lower.specs.declared.lowering.Lowering.{Lowering}
-use Rattle.sap_lower.specs.Commands.{entries_plain, entries_under, port_of, taken_over, low_chosen, merged_port, low_put, low_action, low_command, low_commands}
+use Rattle.sap_lower.specs.Commands.{chosen_unless, entries_plain, entries_under, port_of, taken_over, low_chosen, merged_port, low_put, low_action, low_command, low_commands}
 use Rattle.sap_lower.specs.Lowered.{first_lowering, last_lowering, out_wire, listed, unlisted, unported, picked, register_of, memory_of, registers_declared, lowered}
 use Rattle.sap_lower.proofs.Adding.{OfEach, low_added}
 use Rattle.sap_lower.proofs.Declares.{picked_names, unlisted_names}
@@ -90,11 +92,19 @@ either_step : (b : Bool) (first second : List Wire → Low) → Step first → S
 either_step true first second p q = p
 either_step false first second p q = q
 
+placed_step : (o : Option Operand) (w : ℕ) (r : Right) → Step (λ ws. placed o ws w r)
+placed_step (Some o) w r = free_step (record { operand = o; width = w })
+placed_step None w r = plus_step w r
+
+calculated_step : (w : ℕ) (r : Right) → Step (λ ws. calculated ws w r)
+unfolding calculated
+calculated_step w r = placed_step (copied (folding.settled w r)) w r
+
 two_step : (op : Op2) (x y : Part) → Step (low_two op x y)
 two_step op x y =
     let none : Part = record { operand = Constant x.width 0; width = x.width } in
     either_step (leaves_nothing op x.width y.operand) (λ ws. record { wires = ws; part = none })
-    (λ ws. plus ws (width2 op x.width) (Two op x.operand y.operand)) (free_step none) (plus_step (width2 op x.width) (Two op x.operand y.operand))
+    (λ ws. calculated ws (width2 op x.width) (Two op x.operand y.operand)) (free_step none) (calculated_step (width2 op x.width) (Two op x.operand y.operand))
 
 sliced_step : (o : Operand) (hi lo : ℕ) → Step (sliced o hi lo)
 sliced_step (Named x) hi lo = plus_step (hi + 1 - lo) (Slice x hi lo)
@@ -125,7 +135,7 @@ low_again ms es (cell m i) ws more k =
     rw a (s.again y.wires more k)
 low_again ms es (one op a) ws more k =
     let x = low ms es a ws in
-    let s = plus_step (width1 op x.part.width) (One op x.part.operand) in
+    let s = calculated_step (width1 op x.part.width) (One op x.part.operand) in
     let e = low_again ms es a ws more (λ j n h. k j n (s.keeps x.wires j n h)) in
     rw e (s.again x.wires more k)
 low_again ms es (two op a b) ws more k =
@@ -139,7 +149,7 @@ low_again ms es (choose c a b) ws more k =
     let z = low ms es c ws in
     let x = low ms es a z.wires in
     let y = low ms es b x.wires in
-    let s = plus_step x.part.width (Choose z.part.operand x.part.operand y.part.operand) in
+    let s = calculated_step x.part.width (Choose z.part.operand x.part.operand y.part.operand) in
     let f = low_again ms es b x.wires more (λ j n h. k j n (s.keeps y.wires j n h)) in
     let e = low_again ms es a z.wires more (λ j n h. k j n (s.keeps y.wires j n (low_keeps ms es b x.wires j n h))) in
     let d = low_again ms es c ws more (λ j n h. k j n (s.keeps y.wires j n (low_keeps ms es b x.wires j n (low_keeps ms es a z.wires j n h)))) in
@@ -244,7 +254,7 @@ counted ms es (cell m i) ws open_ones h =
 counted ms es (one op a) ws open_ones h =
     let t = one op a in
     let x = low ms es a ws in
-    let s = plus_step (width1 op x.part.width) (One op x.part.operand) in
+    let s = calculated_step (width1 op x.part.width) (One op x.part.operand) in
     let c = counted ms es a ws open_ones (λ q g. h q (has_behind (t ∷ []) (operations_in a) q g)) in
     let e = low_again ms es a ws x.wires (λ k n g. g) in
     let same : (low ms es t x.wires).wires ≡ (low ms es t ws).wires = rw e refl in
@@ -273,7 +283,7 @@ counted ms es (choose z a b) ws open_ones h =
     let u = low ms es z ws in
     let x = low ms es a u.wires in
     let y = low ms es b x.wires in
-    let s = plus_step x.part.width (Choose u.part.operand x.part.operand y.part.operand) in
+    let s = calculated_step x.part.width (Choose u.part.operand x.part.operand y.part.operand) in
     let o = counted ms es z ws open_ones (λ q g. h q (has_behind (t ∷ []) (zs ++ (xs ++ ys)) q (has_front zs (xs ++ ys) q g))) in
     let c = counted ms es a u.wires o.left (λ q g. o.all q (h q (has_behind (t ∷ []) (zs ++ (xs ++ ys)) q (has_behind zs (xs ++ ys) q (has_front xs ys q g))))) in
     let oc = then_made ms es t ws u.wires x.wires open_ones o c in
@@ -319,6 +329,10 @@ low_adds ms es t ws =
 
 -- assignments and writes
 
+unless_adds : (kept : Bool) (es : List (Name × Part)) (x : Name) (c a : Operand) (ws : List Wire) → length (chosen_unless kept es x c a ws).wires ≤ length ws + 1
+unless_adds true es x c a ws = omega arith
+unless_adds false es x c a ws = plus_adds ws (present es x).width (Choose c a (present es x).operand)
+
 chosen_adds : (ms : Shapes) (es : List (Name × Part)) (ws : List Wire) (c : Term Name) (x : Name) (a : Term Name)
     → length (low_chosen ms es ws c x a).wires ≤ length ws + (1 + operations c + operations a)
 chosen_adds ms es ws c x a =
@@ -326,10 +340,9 @@ chosen_adds ms es ws c x a =
     let z = low ms plain c ws in
     let seen = entries_under z es in
     let y = low ms seen a z.wires in
-    let old = present es x in
     let p = low_adds ms plain c ws in
     let q = low_adds ms seen a z.wires in
-    let r = plus_adds y.wires old.width (Choose z.part.operand y.part.operand old.operand) in
+    let r = unless_adds (same_operand y.part.operand (present seen x).operand) es x z.part.operand y.part.operand y.wires in
     omega (arith, p, q, r)
 
 over_adds : (first : Bool) (ws : List Wire) (w : ℕ) (c n o : Operand) → length (taken_over first ws w c n o).wires ≤ length ws + 1

@@ -2,12 +2,17 @@
 use Rattle.sap_lemmas.proofs.Common.{◌≡◌, ℕ, ◌==◌, List, [], ◌∷◌, Some, Bool, true, false, sym, ap, ◌∙◌, subst, refl, inl, inr, if◌then◌else◌, unwrap_or, bytes_eq, cases_Bool, bytes_eq_apart_back, bytes_eq_same, equal_of_bytes_eq}
 use Rattle.sap_maps.specs.Prelude.{Name, Valuation, set_value, Scope, find, Term}
 use Rattle.sap_net.specs.Rules.{Shapes}
+use Rattle.sap_net.specs.Values.{operand_value}
+use Rattle.sap_net.specs.declared.parts.Operand.{Operand}
+use Rattle.sap_fold.specs.Folding.{same_operand}
+use Rattle.sap_fold.proofs.Folds.{same_is}
 use Rattle.sap_net.specs.declared.parts.Right.TheVariants.{Choose}
 use Rattle.sap_ir.specs.Prelude.{Going, value_in, TermFine}
-use Rattle.sap_lower.specs.Lowering.{nothing, present, low}
+use Rattle.sap_lower.specs.declared.parts.Part.{Part}
+use Rattle.sap_lower.specs.Lowering.{nothing, present, Low, low}
 use Rattle.sap_share.specs.Tables.{replaced}
 use Rattle.sap_lower.specs.declared.lowering.Lowering.{Lowering}
-use Rattle.sap_lower.specs.Commands.{entries_plain, entries_under, low_set}
+use Rattle.sap_lower.specs.Commands.{chosen_unless, entries_plain, entries_under, low_set}
 use Rattle.sap_lower.proofs.Shared.{Gives}
 use Rattle.sap_lower.proofs.Means.{Stands, Env, Around, plus_front, plus_shows, low_front, low_stands}
 use Rattle.sap_lower.proofs.Under.{around_plain, around_under}
@@ -54,39 +59,71 @@ set_at_same true g n a = refl
 set_at_same false g n a = rw (bytes_eq_same n) refl
 
 -- one assignment: what the name stands for, and the others as before
-set_here : (ms : Shapes) (vars : Scope) (vw widths : Name → ℕ) (v : Valuation) (s : Lowering) (g : Going)
-    → Around ms vars vw widths v s.entries g.now.value g.now.cell → (c : Term Name) (n : Name) (t : Term Name) (u : ℕ)
-    → find vars n ≡ Some u → TermFine ms vars 1 c → TermFine ms vars u t → Gives widths v (low_set ms s c n t).wires
-    → Stands widths v (low_set ms s c n t).part u (if value_in vw g c == 0 then g.now.value n else value_in vw g t)
-set_here ms vars vw widths v s g k c n t u found fc ft h =
-    let es = s.entries in
-    let plain = entries_plain es in
-    let z = low ms plain c s.wires in
-    let seen = entries_under z es in
-    let x = low ms seen t z.wires in
-    let old = present es n in
-    let hx = plus_front widths v x.wires old.width (Choose z.part.operand x.part.operand old.operand) h in
-    let hz = low_front widths v ms seen t z.wires hx in
-    let kp = around_plain ms vars vw widths v es g.now.value g.now.cell k in
-    let sz = low_stands ms vars vw widths v plain g.now.value g.now.cell kp 1 c fc s.wires hz in
-    let so = k.env n u found in
-    let p = plus_shows widths v x.wires old.width (Choose z.part.operand x.part.operand old.operand) h in
-    let e1 = sz.shows.value in
-    let e3 = so.shows.value in
-    elim (cases_Bool (value_in vw g c == 0)) [
-      | inl off ↦
-          rw off (record {
-            shows = record { value = p.value ∙ rw (e1, off) e3; wide = p.wide ∙ so.shows.width; width = p.width ∙ so.shows.width };
-            below = so.below;
-          })
-      | inr on ↦
-          let ku = around_under ms vars vw widths v es g.now.value g.now.cell k z hz (value_in vw g c) e1 on in
-          let sx = low_stands ms vars vw widths v seen g.now.value g.now.cell ku u t ft z.wires hx in
-          rw on (record {
-            shows = record { value = p.value ∙ rw (e1, on) sx.shows.value; wide = p.wide ∙ so.shows.width; width = p.width ∙ so.shows.width };
-            below = sx.below;
-          })
-    ]
+
+module _ (ms : Shapes) (vars : Scope) (vw widths : Name → ℕ) (v : Valuation) (s : Lowering) (g : Going)
+    (k : Around ms vars vw widths v s.entries g.now.value g.now.cell) (c : Term Name) (n : Name) (t : Term Name) (u : ℕ)
+    (found : find vars n ≡ Some u) (fc : TermFine ms vars 1 c) (ft : TermFine ms vars u t) where
+  abbrev plain : List (Name × Part)
+  plain = entries_plain s.entries
+
+  abbrev gate : Low
+  gate = low ms plain c s.wires
+
+  abbrev seen : List (Name × Part)
+  seen = entries_under gate s.entries
+
+  abbrev value : Low
+  value = low ms seen t gate.wires
+
+  -- the condition has its value where the wires do
+  gate_stands : Gives widths v gate.wires → Stands widths v gate.part 1 (value_in vw g c)
+  gate_stands h =
+      let kp = around_plain ms vars vw widths v s.entries g.now.value g.now.cell k in
+      low_stands ms vars vw widths v plain g.now.value g.now.cell kp 1 c fc s.wires h
+
+  around_gate : Gives widths v gate.wires → (value_in vw g c == 0) ≡ false → Around ms vars vw widths v seen g.now.value g.now.cell
+  around_gate h on = around_under ms vars vw widths v s.entries g.now.value g.now.cell k gate h (value_in vw g c) (gate_stands h).shows.value on
+
+  unless_here : (kept : Bool) → same_operand value.part.operand (present seen n).operand ≡ kept
+      → Gives widths v (chosen_unless kept s.entries n gate.part.operand value.part.operand value.wires).wires
+      → Stands widths v (chosen_unless kept s.entries n gate.part.operand value.part.operand value.wires).part u (if value_in vw g c == 0 then g.now.value n else value_in vw g t)
+  unless_here true e h =
+      let hz = low_front widths v ms seen t gate.wires h in
+      let so = k.env n u found in
+      elim (cases_Bool (value_in vw g c == 0)) [
+        | inl off ↦ rw off so
+        | inr on ↦
+            let ku = around_gate hz on in
+            let sx = low_stands ms vars vw widths v seen g.now.value g.now.cell ku u t ft gate.wires h in
+            let there = ku.env n u found in
+            let same : value.part.operand ≡ (present seen n).operand = same_is value.part.operand (present seen n).operand e in
+            let kept : g.now.value n ≡ value_in vw g t = sym there.shows.value ∙ sym (ap (λ (o : Operand). operand_value v o) same) ∙ sx.shows.value in
+            rw on (subst (λ (m : ℕ). Stands widths v (present s.entries n) u m) kept so)
+      ]
+  unless_here false e h =
+      let old = present s.entries n in
+      let hx = plus_front widths v value.wires old.width (Choose gate.part.operand value.part.operand old.operand) h in
+      let hz = low_front widths v ms seen t gate.wires hx in
+      let so = k.env n u found in
+      let p = plus_shows widths v value.wires old.width (Choose gate.part.operand value.part.operand old.operand) h in
+      let e1 = (gate_stands hz).shows.value in
+      let e3 = so.shows.value in
+      elim (cases_Bool (value_in vw g c == 0)) [
+        | inl off ↦
+            rw off (record {
+              shows = record { value = p.value ∙ rw (e1, off) e3; wide = p.wide ∙ so.shows.width; width = p.width ∙ so.shows.width };
+              below = so.below;
+            })
+        | inr on ↦
+            let sx = low_stands ms vars vw widths v seen g.now.value g.now.cell (around_gate hz on) u t ft gate.wires hx in
+            rw on (record {
+              shows = record { value = p.value ∙ rw (e1, on) sx.shows.value; wide = p.wide ∙ so.shows.width; width = p.width ∙ so.shows.width };
+              below = sx.below;
+            })
+      ]
+
+  set_here : Gives widths v (low_set ms s c n t).wires → Stands widths v (low_set ms s c n t).part u (if value_in vw g c == 0 then g.now.value n else value_in vw g t)
+  set_here h = unless_here (same_operand value.part.operand (present seen n).operand) refl h
 
 pub set_stands : (ms : Shapes) (vars : Scope) (vw widths : Name → ℕ) (v : Valuation) (s : Lowering) (g : Going)
     → Around ms vars vw widths v s.entries g.now.value g.now.cell → HasEntries vars s.entries

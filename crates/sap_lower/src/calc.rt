@@ -7,6 +7,7 @@ ghost use Rattle.sap_lower.specs.Lowering.{cell_width, leaves_nothing, low, low_
 ghost use Rattle.sap_lower.specs.Parts.{glued, low_all};
 ghost use Rattle.sap_lower.specs.Reads.{entries_seen};
 
+use crate::calculation::calculate;
 use crate::facts::Fact;
 use crate::parts::Part;
 use crate::reads::{CHOICES, seen};
@@ -38,7 +39,7 @@ pub fn present_part(alloc: Global, entries: &Table<Part>, name: &Name) -> Result
 }
 
 /// What a name stands for where the facts hold.
-fn seen_part(
+pub fn seen_part(
     alloc: Global,
     wires: &Wires,
     entries: &Table<Part>,
@@ -118,8 +119,9 @@ fn lower_two(
             width: a.width,
         });
     }
-    wires.add(
+    calculate(
         alloc,
+        wires,
         width_two(op, a.width),
         Right::Two(op, a.operand, b.operand),
     )
@@ -219,7 +221,12 @@ pub fn lower_calc(
         }
         Calc::One(op, a) => {
             let a = lower_calc(alloc, wires, entries, facts, before, memories, a)?;
-            wires.add(alloc, width_one(*op, a.width), Right::One(*op, a.operand))
+            calculate(
+                alloc,
+                wires,
+                width_one(*op, a.width),
+                Right::One(*op, a.operand),
+            )
         }
         Calc::Two(op, a, b) => {
             let a = lower_calc(alloc, wires, entries, facts, before, memories, a)?;
@@ -230,8 +237,9 @@ pub fn lower_calc(
             let c = lower_calc(alloc, wires, entries, facts, before, memories, c)?;
             let a = lower_calc(alloc, wires, entries, facts, before, memories, a)?;
             let b = lower_calc(alloc, wires, entries, facts, before, memories, b)?;
-            wires.add(
+            calculate(
                 alloc,
+                wires,
                 a.width,
                 Right::Choose(c.operand, a.operand, b.operand),
             )

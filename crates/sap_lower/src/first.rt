@@ -1,14 +1,18 @@
 //! What each name stands for at first, the shapes of memories, and the write ports of memories that aren't written.
 
-ghost use Rattle.std.specs.Prelude.{◌≡◌, ◌++◌, map, IfOk, OnOk};
+ghost use Rattle.std.specs.Prelude.{◌≡◌, ◌||◌, ℕ, List, ◌++◌, map, IfOk, OnOk};
 ghost use Rattle.sap_ir.specs.Program.{source_of};
 ghost use Rattle.sap_lower.specs.Lookup.{shapes_of};
-ghost use Rattle.sap_lower.specs.Lowered.{first_entries, first_port, index_bits, named_entry, zero_entry};
+ghost use Rattle.sap_ir.specs.Calcs.{action_of, commands_of};
+ghost use Rattle.sap_lower.specs.Lowered.{first_entries, first_port, index_bits, named_entry, register_entry, targets, with_target, zero_entry};
+ghost use Rattle.sap_share.specs.Sets.{AreSame, holds};
+ghost use Rattle.sap_net.specs.Names.{is_among};
 
 use crate::parts::{Part, WritePort};
-use sap_ir::guarded::{MemoryVariable, Var};
+use sap_ir::guarded::{Act, GuardedCmd, MemoryVariable, Var};
 use sap_ir::program::Guarded;
 use sap_net::parts::{Name, Operand};
+use sap_share::name_set::NameSet;
 use sap_share::table::Table;
 use std::alloc::{AllocError, Global};
 
@@ -33,7 +37,7 @@ fn bits_of(depth: u32) -> u32
     }
 }
 
-/// Inputs and registers stand for themselves.
+/// Inputs stand for themselves.
 fn add_named(
     alloc: Global,
     entries: &mut Vec<(Name, Part)>,
@@ -53,6 +57,88 @@ fn add_named(
         ))?;
     }
     Ok(())
+}
+
+fn add_target(alloc: Global, assigned: &mut NameSet, act: &Act) -> Result<(), AllocError>
+    ensures { OnOk result (AreSame assigned.new (with_target (action_of act.now) assigned.old)) }
+{
+    match act {
+        Act::Set(name, _) => assigned.add(alloc, name),
+        Act::Put { .. } => Ok(()),
+    }
+}
+
+fn add_targets(alloc: Global, assigned: &mut NameSet, cmds: &[GuardedCmd]) -> Result<(), AllocError>
+    ensures { OnOk result ((n : List ℕ) → holds assigned.new n ≡ (is_among n (targets (commands_of cmds.now)) || holds assigned.old n)) }
+{
+    for cmd in cmds {
+        add_target(alloc, assigned, &cmd.act)?;
+    }
+    Ok(())
+}
+
+/// The names that are assigned.
+fn targets_of(alloc: Global, cmds: &[GuardedCmd]) -> Result<NameSet, AllocError>
+    ensures { IfOk result (λ t. AreSame t (targets (commands_of cmds.now))) }
+{
+    let mut assigned = NameSet::new(alloc);
+    add_targets(alloc, &mut assigned, cmds)?;
+    Ok(assigned)
+}
+
+/// What a register stands for: itself, or its start if nothing assigns it.
+fn register_operand(
+    alloc: Global,
+    assigned: &NameSet,
+    register: &Var,
+) -> Result<Operand, AllocError>
+    ensures { IfOk result (λ o. o ≡ (register_entry assigned.now register.now).1.operand) }
+{
+    if assigned.has(&register.name) {
+        let name = register.name.copy(alloc)?;
+        Ok(Operand::Named(name))
+    } else {
+        Ok(Operand::Constant {
+            width: register.width,
+            value: register.start,
+        })
+    }
+}
+
+/// A register that is assigned stands for itself, another for its start.
+fn add_registers(
+    alloc: Global,
+    entries: &mut Vec<(Name, Part)>,
+    assigned: &NameSet,
+    registers: &[Var],
+) -> Result<(), AllocError>
+    ensures { OnOk result (entries.new.items ≡ entries.old.items ++ map (register_entry assigned.now) registers.now) }
+{
+    for register in registers {
+        let name = register.name.copy(alloc)?;
+        let operand = register_operand(alloc, assigned, register)?;
+        entries.push((
+            name,
+            Part {
+                operand,
+                width: register.width,
+            },
+        ))?;
+    }
+    Ok(())
+}
+
+/// Registers at first, as these commands assign them.
+fn add_kept(
+    alloc: Global,
+    entries: &mut Vec<(Name, Part)>,
+    cmds: &[GuardedCmd],
+    registers: &[Var],
+) -> Result<(), AllocError>
+    ensures { OnOk result (entries.new.items ≡ entries.old.items ++ map (register_entry (targets (commands_of cmds.now))) registers.now) }
+{
+    let assigned = targets_of(alloc, cmds)?;
+    add_registers(alloc, entries, &assigned, registers)
 }
 
 /// Wires stand for 0.
@@ -82,15 +168,16 @@ fn add_zeros(
 
 fn entry_list(
     alloc: Global,
+    cmds: &[GuardedCmd],
     inputs: &[Var],
     registers: &[Var],
     wires: &[Var],
 ) -> Result<Vec<(Name, Part)>, AllocError>
-    ensures { IfOk result (λ es. es.items ≡ map named_entry inputs.now ++ map named_entry registers.now ++ map zero_entry wires.now) }
+    ensures { IfOk result (λ es. es.items ≡ map named_entry inputs.now ++ map (register_entry (targets (commands_of cmds.now))) registers.now ++ map zero_entry wires.now) }
 {
     let mut made = Vec::new(alloc);
     add_named(alloc, &mut made, inputs)?;
-    add_named(alloc, &mut made, registers)?;
+    add_kept(alloc, &mut made, cmds, registers)?;
     add_zeros(alloc, &mut made, wires)?;
     Ok(made)
 }
@@ -98,7 +185,13 @@ fn entry_list(
 pub fn entries(alloc: Global, source: &Guarded) -> Result<Table<Part>, AllocError>
     ensures { IfOk result (λ es. es ≡ first_entries (source_of source.now)) }
 {
-    let made = entry_list(alloc, source.inputs(), source.registers(), source.wires())?;
+    let made = entry_list(
+        alloc,
+        source.cmds(),
+        source.inputs(),
+        source.registers(),
+        source.wires(),
+    )?;
     Table::new(alloc, made)
 }
 

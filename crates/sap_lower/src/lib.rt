@@ -2,6 +2,7 @@
 #![tactic(auto)]
 
 mod calc;
+mod calculation;
 mod declare;
 mod facts;
 mod first;

@@ -1,19 +1,23 @@
 //! What a program is lowered to, one command after another.
 
-ghost use Rattle.std.specs.Prelude.{◌≡◌, ℕ, List, None, Some, IfOk, OnOk};
+ghost use Rattle.std.specs.Prelude.{◌≡◌, ℕ, false, List, None, Some, take, IfOk, OnOk};
 ghost use Rattle.std.specs.Map.{keys_of};
 ghost use Rattle.sap_net.specs.NameMaps.{place_in};
 ghost use Rattle.sap_ir.specs.Calcs.{action_of, commands_of, term_of};
 ghost use Rattle.sap_ir.specs.Program.{source_of};
-ghost use Rattle.sap_lower.specs.Commands.{assigned, chosen, low_action, low_commands, merged_port, port_of, written};
+ghost use Rattle.sap_fold.specs.Folding.{same_operand};
+ghost use Rattle.sap_lower.specs.Commands.{assigned, chosen, chosen_unless, low_action, low_commands, merged_port, port_of, written};
 ghost use Rattle.sap_lower.specs.Lowered.{first_lowering};
+ghost use Rattle.sap_lower.specs.Lowering.{present};
+ghost use Rattle.sap_lower.specs.Reads.{entries_seen};
 
-use crate::calc::{lower_calc, nothing_yet};
+use crate::calc::{lower_calc, nothing_yet, seen_part};
 use crate::facts::{Fact, facts_of};
 use crate::first;
 use crate::parts::{Part, WritePort};
 use crate::wires::Wires;
 use crate::write_ports::{merge, present_port};
+use sap_fold::rules::same;
 use sap_ir::guarded::{Act, GuardedCmd};
 use sap_ir::program::Guarded;
 use sap_net::parts::{Name, Operand, Right};
@@ -43,15 +47,64 @@ impl Lowering {
         })
     }
 
-    /// An assignment under a condition.
+    /// Whether a name stands for this where the facts hold.
+    fn has(
+        &self,
+        alloc: Global,
+        facts: &[Fact],
+        before: usize,
+        name: &Name,
+        value: &Operand,
+    ) -> Result<bool, AllocError>
+        ensures { IfOk result (λ kept. kept ≡ same_operand value.now (present (entries_seen (take before self.now.wires) facts.now self.now.entries) name.now).operand) }
+    {
+        let part = seen_part(alloc, &self.wires, &self.entries, facts, before, name)?;
+        Ok(same(value, &part.operand))
+    }
+
+    /// An assignment under a condition where these facts hold.
     fn set(
+        &mut self,
+        alloc: Global,
+        facts: &[Fact],
+        before: usize,
+        name: &Name,
+        when: Operand,
+        value: Operand,
+    ) -> Result<(), AllocError>
+        ensures { OnOk result (self.new ≡ assigned self.old name.now (chosen (entries_seen (take before self.old.wires) facts.now self.old.entries) self.old.entries name.now when value self.old.wires)) }
+    {
+        let kept = self.has(alloc, facts, before, name, &value)?;
+        self.set_unless(alloc, kept, name, when, value)
+    }
+
+    /// An assignment under a condition, if it isn't known to change nothing.
+    #[tactic(auto, using(crate::proofs::Unchanged::kept_itself))]
+    fn set_unless(
+        &mut self,
+        alloc: Global,
+        kept: bool,
+        name: &Name,
+        when: Operand,
+        value: Operand,
+    ) -> Result<(), AllocError>
+        ensures { OnOk result (self.new ≡ assigned self.old name.now (chosen_unless kept self.old.entries name.now when value self.old.wires)) }
+    {
+        if kept {
+            return Ok(());
+        }
+        self.choose(alloc, name, when, value)
+    }
+
+    /// A choice between what is assigned and what was there.
+    fn choose(
         &mut self,
         alloc: Global,
         name: &Name,
         when: Operand,
         value: Operand,
     ) -> Result<(), AllocError>
-        ensures { OnOk result (self.new ≡ assigned self.old name.now (chosen self.old.entries name.now when value self.old.wires)) }
+        ensures { OnOk result (self.new ≡ assigned self.old name.now (chosen_unless false self.old.entries name.now when value self.old.wires)) }
     {
         match self.entries.place(name) {
             Some(place) => self.set_at(alloc, place, when, value),
@@ -68,7 +121,7 @@ impl Lowering {
         value: Operand,
     ) -> Result<(), AllocError>
         requires { (n : List ℕ) × (place_in (keys_of self.old.entries) n ≡ Some place) }
-        ensures { OnOk result ((n : List ℕ) → place_in (keys_of self.old.entries) n ≡ Some place → self.new ≡ assigned self.old n (chosen self.old.entries n when value self.old.wires)) }
+        ensures { OnOk result ((n : List ℕ) → place_in (keys_of self.old.entries) n ≡ Some place → self.new ≡ assigned self.old n (chosen_unless false self.old.entries n when value self.old.wires)) }
     {
         let old = self.entries.at(place).copy(alloc)?;
         let right = Right::Choose(when, value, old.operand);
@@ -79,7 +132,7 @@ impl Lowering {
 
     /// An assignment to a name that stands for nothing.
     fn set_none(&mut self, alloc: Global, when: Operand, value: Operand) -> Result<(), AllocError>
-        ensures { OnOk result ((n : List ℕ) → place_in (keys_of self.old.entries) n ≡ None → self.new ≡ assigned self.old n (chosen self.old.entries n when value self.old.wires)) }
+        ensures { OnOk result ((n : List ℕ) → place_in (keys_of self.old.entries) n ≡ None → self.new ≡ assigned self.old n (chosen_unless false self.old.entries n when value self.old.wires)) }
     {
         let old = nothing_yet();
         let right = Right::Choose(when, value, old.operand);
@@ -136,7 +189,7 @@ impl Lowering {
                     memories,
                     value,
                 )?;
-                self.set(alloc, name, when.operand, value.operand)
+                self.set(alloc, facts, before, name, when.operand, value.operand)
             }
             Act::Put {
                 memory,

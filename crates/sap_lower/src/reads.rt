@@ -2,7 +2,7 @@
 
 ghost use Rattle.std.specs.Prelude.{◌≡◌, take};
 ghost use Rattle.sap_lower.specs.Reads as spec;
-ghost use Rattle.sap_lower.specs.Reads.{excluded, of_name, seen_through, test_denied};
+ghost use Rattle.sap_lower.specs.Reads.{excluded, of_name, opened, seen_through, test_denied};
 ghost use Rattle.sap_lower.specs.Facts.{tests};
 
 use crate::facts::{Fact, GATES, TESTS, is_zero};
@@ -92,13 +92,35 @@ fn denies_operand(facts: &[Fact], wires: &Wires, before: usize, test: &Operand) 
     }
 }
 
-/// Whether a condition is known not to be 0.
-fn is_open(facts: &[Fact], condition: &Operand) -> bool
-    ensures { result ≡ of_name (spec.is_set facts.now) condition.now }
+/// Whether an operand is known not to be 0 by itself: a number, or because the facts say so.
+fn is_nonzero(facts: &[Fact], operand: &Operand) -> bool
+    ensures { result ≡ spec.nonzero facts.now operand.now }
 {
-    match condition {
+    match operand {
         Operand::Named(name) => is_set(facts, name),
-        Operand::Constant { .. } => false,
+        Operand::Constant { value, .. } => *value != 0,
+    }
+}
+
+/// Whether a gate is known not to be 0: the facts say so, or its test is not and the gate around it is open.
+#[tactic(auto, unfolding(crate::specs::Reads::opened))]
+fn opens(facts: &[Fact], wires: &Wires, before: usize, most: u32, gate: &Operand) -> bool
+    ensures { result ≡ opened most (take before wires.now) facts.now gate.now }
+{
+    if most == 0 {
+        return false;
+    }
+    if is_nonzero(facts, gate) {
+        return true;
+    }
+    let Operand::Named(name) = gate else {
+        return false;
+    };
+    match wires.right_of(before, name) {
+        Some(Right::Choose(around, test, _)) => {
+            is_nonzero(facts, test) && opens(facts, wires, before, most - 1, around)
+        }
+        _ => false,
     }
 }
 
@@ -143,7 +165,7 @@ pub fn seen<'a>(
     };
     match wires.right_of(before, name) {
         Some(Right::Choose(condition, new, old)) => {
-            if is_open(facts, condition) {
+            if opens(facts, wires, before, GATES, condition) {
                 seen(facts, wires, before, most - 1, new)
             } else if excludes(facts, wires, before, GATES, condition) {
                 seen(facts, wires, before, most - 1, old)

@@ -8,7 +8,7 @@ use Rattle.sap_lower.specs.declared.parts.Part.{Part}
 use Rattle.sap_lower.specs.Lowering.{Low, low}
 use Rattle.sap_lower.specs.Parts.{glued, low_all}
 use Rattle.sap_lower.specs.Reads.{entries_seen}
-use Rattle.sap_lower.proofs.Front.{front_ok, longer_ok, two_lowered}
+use Rattle.sap_lower.proofs.Front.{calculated_front_ok, calculated_longer_ok, front_ok, longer_ok, two_lowered}
 use Rattle.sap_lower.proofs.Glue.{low_joined}
 use Rattle.sap_lower.proofs.calc.+lower.Goals as goal
 
@@ -99,3 +99,31 @@ pub lower_calc-returns-in_ok-parts-in-Concat-clause-longer :
 lower_calc-returns-in_ok-parts-in-Concat-clause-longer t c =
     longer_ok c.glue.result c.args.before c.args.memories.now (entries_seen (take c.args.before c.args.wires.now) c.args.facts.now c.args.entries.now)
     (term_of c.args.calc.now) c.args.wires.now c.glue.new.wires c.requires (lower_calc-returns-in_ok-parts-in-Concat-clause-wires t c)
+
+pub lower_calc-returns-in_ok-a-in-One-clause-front :
+    goal.lower_calc-returns-in_ok-a-in-One-clause-front
+lower_calc-returns-in_ok-a-in-One-clause-front t c =
+    let a = c.in_ok-a-in-One.ensures in
+    calculated_front_ok c.calculate.result c.args.before c.args.wires.now c.lower_calc-in-One.new.wires c.calculate.new.wires _ _ a.longer a.front c.calculate.ensures.wires
+
+pub lower_calc-returns-in_ok-a-in-One-clause-longer :
+    goal.lower_calc-returns-in_ok-a-in-One-clause-longer
+lower_calc-returns-in_ok-a-in-One-clause-longer t c =
+    let a = c.in_ok-a-in-One.ensures in
+    calculated_longer_ok c.calculate.result c.args.before c.lower_calc-in-One.new.wires c.calculate.new.wires _ _ a.longer c.calculate.ensures.wires
+
+pub lower_calc-returns-in_ok-b-in-Choose-clause-front :
+    goal.lower_calc-returns-in_ok-b-in-Choose-clause-front
+lower_calc-returns-in_ok-b-in-Choose-clause-front t c =
+    let z = c.in_ok-c-in-Choose.ensures in
+    let a = c.in_ok-a-in-Choose.ensures in
+    let b = c.in_ok-b-in-Choose.ensures in
+    calculated_front_ok c.calculate-in-Choose.result c.args.before c.args.wires.now c.lower_calc-in-Choose-3.new.wires c.calculate-in-Choose.new.wires _ _ b.longer
+    (b.front ∙ a.front ∙ z.front) c.calculate-in-Choose.ensures.wires
+
+pub lower_calc-returns-in_ok-b-in-Choose-clause-longer :
+    goal.lower_calc-returns-in_ok-b-in-Choose-clause-longer
+lower_calc-returns-in_ok-b-in-Choose-clause-longer t c =
+    let b = c.in_ok-b-in-Choose.ensures in
+    calculated_longer_ok c.calculate-in-Choose.result c.args.before c.lower_calc-in-Choose-3.new.wires c.calculate-in-Choose.new.wires _ _ b.longer
+    c.calculate-in-Choose.ensures.wires

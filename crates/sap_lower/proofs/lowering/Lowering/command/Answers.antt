@@ -16,7 +16,7 @@ returns-in-Set c =
     let e =
     set_lowered ms l when c.lower_calc.new.wires c.in_ok-when.when c.len-before.result c.as_slice-facts.result.now gate.wires gate.part c.len-before.ensures
     (c.as_slice-facts.ensures.value ∙ c.in_ok-facts.ensures) c.in-Set.name (term_of c.in-Set.value) c.lower_calc-in-Set.new.wires c.in_ok-value-in-Set.value
-    value.wires value.part
+    value.wires value.part value.front
     ∙ ap (λ (a : Action). low_action ms l when a) (sym (ap action_of c.in-Set.is)) in
     subst (λ (q : Lowering). OnOk c.set.result (c.set.new.self ≡ q)) e c.set.ensures
 
