@@ -60,11 +60,7 @@ fn netlist_for(alloc: Global, checked: &Checked, hang: &HangTable) -> Result<Net
 }
 
 /// The netlist of the module of a checked design.
-fn module_netlist(
-    alloc: Global,
-    checked: &Checked,
-    hang: &HangTable,
-) -> Result<Netlist, AllocError>
+fn module_netlist(alloc: Global, checked: &Checked, hang: &HangTable) -> Result<Netlist, AllocError>
     requires { IsHangTable (tree_in checked.now) hang.now }
     ensures { IfOk result (λ n. IsNetlistFor (levels_in checked.now) (tree_in checked.now) n) }
 {

@@ -26,9 +26,11 @@ use Rattle.sap_lower.specs.Commands.{port_of, low_commands}
 
 -- Inputs and registers stand for themselves at first, a register that nothing assigns for its start, wires for 0.
 
+-- A name that stands for itself.
 abbrev pub named_entry : Var → Name × Part
 named_entry x = (x.name, record { operand = Named x.name; width = x.width })
 
+-- A name that stands for 0.
 abbrev pub zero_entry : Var → Name × Part
 zero_entry x = (x.name, record { operand = Constant x.width 0; width = x.width })
 
@@ -57,84 +59,117 @@ abbrev pub first_entries : Source → List (Name × Part)
 first_entries s =
     map named_entry s.inputs ++ map (register_entry (targets s.commands)) s.registers ++ map zero_entry s.wires
 
--- the bits of an index, where the depth is a power of two up to 2 ^ most
+-- The bits of an index, where the depth is a power of two up to 2 ^ most.
 abbrev pub bits_within : (most depth : ℕ) → ℕ
 bits_within zero d = zero
 bits_within (suc k) d = if d == 2 ^ suc k then suc k else bits_within k d
 
+-- The width of the index of a depth.
 abbrev pub index_bits : (depth : ℕ) → ℕ
 index_bits d = bits_within 12 d
 
+-- The write port of a memory that nothing has written yet.
 abbrev pub first_port : MemoryVariable → Name × WritePort
-first_port m =
-    (m.name, record { width = m.width; bits = index_bits m.depth; enable = Constant 1 0; index = Constant (index_bits m.depth) 0; value = Constant m.width 0 })
+first_port m = (
+  m.name,
+  record {
+    width = m.width;
+    bits = index_bits m.depth;
+    enable = Constant 1 0;
+    index = Constant (index_bits m.depth) 0;
+    value = Constant m.width 0;
+  },
+)
 
+-- What stands before the first command.
 abbrev pub first_lowering : Source → Lowering
 first_lowering s = record { wires = []; entries = first_entries s; ports = map first_port s.memories }
 
+-- What stands after the last command.
 abbrev pub last_lowering : Source → Lowering
 last_lowering s = low_commands (shapes s) (first_lowering s) s.commands
 
--- a copy of what a wire stands for at the end
+-- A copy of what a wire stands for at the end.
 abbrev pub out_wire : List (Name × Part) → Var → Wire
 out_wire es x = record { name = x.name; width = x.width; right = Copy (present es x.name).operand }
 
+-- The register of a name, with what stands for it in the end as its next operand.
 abbrev pub register_of : List (Name × Part) → Var → Register
 register_of es x = record { name = x.name; width = x.width; start = x.start; next = (present es x.name).operand }
 
+-- The memory of a name, with its write port in the end.
 abbrev pub memory_of : List (Name × WritePort) → MemoryVariable → Memory
 memory_of ps m =
     let p = port_of ps m.name in
-    record { name = m.name; width = m.width; depth = m.depth; start = m.start; enable = p.enable; index = p.index; value = p.value }
+    record {
+      name = m.name;
+      width = m.width;
+      depth = m.depth;
+      start = m.start;
+      enable = p.enable;
+      index = p.index;
+      value = p.value;
+    }
 
+-- The input of a name.
 abbrev pub input_of : Var → Input
 input_of x = record { name = x.name; width = x.width }
 
 -- Registers that are ports are declared first, in port order.
 
+-- The thing in front of a list, where it is there.
 abbrev pub in_front : {X : Type 0} → Option X → List X → List X
 in_front None xs = xs
 in_front (Some x) xs = x ∷ xs
 
+-- The registers with these names, in the order of the names.
 abbrev pub picked : List Var → List Name → List Var
 picked rs [] = []
 picked rs (p ∷ ps) = in_front (find (map (λ r. (r.name, r)) rs) p) (picked rs ps)
 
+-- The variables that aren't listed.
 abbrev pub unlisted : List Name → List Var → List Var
 unlisted ps xs = filter (λ x. not (is_among x.name ps)) xs
 
--- the variables that are ports
+-- The variables that are ports.
 abbrev pub listed : List Name → List Var → List Var
 listed ps xs = filter (λ x. is_among x.name ps) xs
 
+-- The registers in the order of their declaration: ports first.
 abbrev pub registers_declared : Source → List Var
 registers_declared s = picked s.registers s.ports ++ unlisted s.ports s.registers
 
+-- The port of an input.
 abbrev pub input_port : Var → Port
 input_port x = record { name = x.name; kind = kind.Input }
 
+-- The kind of a port that shows a register or a wire.
 abbrev pub kind_shown : (is_register : Bool) → PortKind
 kind_shown b = if b then kind.Register else kind.Wire
 
--- a port of one of these registers, or else of a wire
+-- A port of one of these registers, or else of a wire.
 abbrev pub port_among : (registers : List Name) → Name → Port
 port_among rs p = record { name = p; kind = kind_shown (is_among p rs) }
 
+-- The port of a name.
 abbrev pub port_shown : List Var → Name → Port
 port_shown rs p = port_among (variable_names rs) p
 
+-- The wires of the netlist: those of the commands, then those that ports show.
 abbrev pub all_wires : Source → List Wire
 all_wires s = let t = last_lowering s in t.wires ++ map (out_wire t.entries) (listed s.ports s.wires)
 
--- what no port declares
+-- What no port declares.
 abbrev pub unported : List Name → List Name → List Name
 unported ps xs = filter (λ x. not (is_among x ps)) xs
 
+-- The declared names: inputs, ports, then the others.
 abbrev pub names_declared : Source → List Wire → List Name
 names_declared s ws =
-    variable_names s.inputs ++ (s.ports ++ (unported s.ports (names_of ws) ++ (unported s.ports (variable_names s.registers) ++ memory_names s.memories)))
+    variable_names s.inputs ++ (s.ports ++ (unported s.ports (names_of ws)
+    ++ (unported s.ports (variable_names s.registers) ++ memory_names s.memories)))
 
--- the netlist of these wires, where each name and each memory stands for these operands at the end
+-- The netlist of these wires, where each name and each memory stands for these operands at the end.
 abbrev pub net_declared : Source → List Wire → List (Name × Part) → List (Name × WritePort) → Net
 net_declared s ws es ps =
     record {
@@ -147,5 +182,6 @@ net_declared s ws es ps =
       memories = map (memory_of ps) s.memories;
     }
 
+-- The netlist of a list of guarded commands.
 abbrev pub lowered : Source → Net
 lowered s = net_declared s (all_wires s) (last_lowering s).entries (last_lowering s).ports

@@ -18,19 +18,20 @@ use Rattle.sap_share.specs.Rights.{rights}
 use Rattle.sap_fold.specs.Folding.{settled}
 use Rattle.sap_lower.specs.declared.parts.Part.{Part}
 
+-- The part of what has no bits.
 abbrev pub nothing : Part
 nothing = record { operand = Constant 0 0; width = 0 }
 
--- what a name stands for
+-- What a name stands for.
 abbrev pub present : List (Name × Part) → Name → Part
 present es x = unwrap_or (find es x) nothing
 
--- wires, and an operand with its width
+-- Wires, and an operand with its width.
 pub record Low : Type 0 where
   pub wires : List Wire
   pub part : Part
 
--- a wire that is there, or one more wire
+-- A wire that is there, or one more wire.
 abbrev pub shared : Option Name → List Wire → (width : ℕ) → Right → Low
 shared (Some n) ws w r = record { wires = ws; part = record { operand = Named n; width = w } }
 shared None ws w r =
@@ -39,7 +40,7 @@ shared None ws w r =
       part = record { operand = Named (helper (length ws)); width = w };
     }
 
--- the wire of this width and right side
+-- The wire of this width and right side.
 abbrev pub plus : List Wire → (width : ℕ) → Right → Low
 plus ws w r = shared (find (rights ws) (key w r)) ws w r
 
@@ -57,39 +58,49 @@ placed None ws w r = plus ws w r
 unfoldable pub calculated : List Wire → (width : ℕ) → Right → Low
 calculated ws w r = placed (copied (settled w r)) ws w r
 
--- a shift by a constant that leaves nothing
+-- A shift by a constant that leaves nothing.
 abbrev pub is_past : (width : ℕ) → Operand → Bool
 is_past w (Named x) = false
 is_past w (Constant u n) = nat_le w n
 
+-- The operator is a shift by the width or more.
 abbrev pub leaves_nothing : Op2 → (width : ℕ) → Operand → Bool
 leaves_nothing Shl w o = is_past w o
 leaves_nothing Shr w o = is_past w o
 leaves_nothing _ w o = false
 
+-- The wires of an operator of two operands.
 abbrev pub low_two : Op2 → Part → Part → List Wire → Low
 low_two op x y ws =
-    if leaves_nothing op x.width y.operand then record { wires = ws; part = record { operand = Constant x.width 0; width = x.width } }
+    if leaves_nothing op x.width y.operand then record {
+      wires = ws;
+      part = record { operand = Constant x.width 0; width = x.width };
+    }
     else calculated ws (width2 op x.width) (Two op x.operand y.operand)
 
+-- The wires of a slice of an operand.
 abbrev pub sliced : Operand → (hi lo : ℕ) → List Wire → Low
 sliced (Named x) hi lo ws = plus ws (hi + 1 - lo) (Slice x hi lo)
 sliced (Constant w n) hi lo ws =
     record { wires = ws; part = record { operand = Constant (hi + 1 - lo) (slice_of n hi lo); width = hi + 1 - lo } }
 
--- bits that no number has
+-- Bits that no number has.
 abbrev pub is_outside : (hi lo : ℕ) → Bool
 is_outside hi lo = nat_lt hi lo || nat_lt 63 hi
 
+-- The wires of a slice; outside of its operand it is nothing.
 abbrev pub low_slice : Operand → (hi lo : ℕ) → List Wire → Low
 low_slice o hi lo ws = if is_outside hi lo then record { wires = ws; part = nothing } else sliced o hi lo ws
 
+-- The width of a memory's cells.
 abbrev pub cell_width : Shapes → Name → ℕ
 cell_width ms m = (unwrap_or (find ms m) (0, 0)).0
 
+-- The wires of two parts, one in front of the other.
 abbrev pub low_join : Part → Part → List Wire → Low
 low_join x y ws = plus ws ((x.width + y.width) % 4294967296) (Concat (x.operand ∷ y.operand ∷ []))
 
+-- The wires of a term, and the part that stands for it.
 abbrev pub low : Shapes → List (Name × Part) → Term Name → List Wire → Low
 low ms es (constant w n) ws = record { wires = ws; part = record { operand = Constant w n; width = w } }
 low ms es (read x) ws = record { wires = ws; part = present es x }

@@ -13,30 +13,34 @@ use Rattle.sap_lower.specs.declared.facts.Fact.TheVariants.{IsSet, Equals}
 use Rattle.sap_lower.specs.declared.parts.Part.{Part}
 use Rattle.sap_lower.specs.Facts.{right_of, is_zero, tests, gates}
 
--- The fact says that the name isn't 0, ..
+-- The fact says that the name isn't 0.
 abbrev pub sets : Name → Fact → Bool
 sets n (IsSet m) = bytes_eq m n
 sets n (Equals m x) = not (x == 0) && bytes_eq m n
 
--- .. that it is 0, ..
+-- The fact says that the name is 0.
 abbrev pub clears : Name → Fact → Bool
 clears n (IsSet m) = false
 clears n (Equals m x) = x == 0 && bytes_eq m n
 
--- .. and that it isn't x.
+-- The fact says that the name isn't x.
 abbrev pub differs : Name → ℕ → Fact → Bool
 differs n x (IsSet m) = x == 0 && bytes_eq m n
 differs n x (Equals m y) = not (y == x) && bytes_eq m n
 
+-- Some fact says that the name isn't 0.
 abbrev pub is_set : List Fact → Name → Bool
 is_set fs n = list_any (sets n) fs
 
+-- Some fact says that the name is 0.
 abbrev pub is_clear : List Fact → Name → Bool
 is_clear fs n = list_any (clears n) fs
 
+-- Some fact says that the name isn't x.
 abbrev pub is_other : List Fact → Name → ℕ → Bool
 is_other fs n x = list_any (differs n x) fs
 
+-- It holds of the operand's name.
 abbrev pub of_name : (Name → Bool) → Operand → Bool
 of_name holds (Named x) = holds x
 of_name holds (Constant w x) = false
@@ -52,9 +56,11 @@ abbrev pub test_denied : (most : ℕ) → List Wire → List Fact → Name → B
 test_denied zero ws fs n = false
 test_denied (suc k) ws fs n = is_clear fs n || right_denied fs (test_denied k ws fs) (right_of ws n)
 
+-- The facts say that a gate is 0, by its right side.
 abbrev pub gate_denied : List Wire → List Fact → (outer : Operand → Bool) → Name → Option Right → Bool
 gate_denied ws fs outer n (Some (Choose around test other)) =
-    if is_zero other then is_clear fs n || (of_name (test_denied tests ws fs) test || outer around) else test_denied tests ws fs n
+    if is_zero other then is_clear fs n || (of_name (test_denied tests ws fs) test || outer around)
+    else test_denied tests ws fs n
 gate_denied ws fs outer n _ = test_denied tests ws fs n
 
 -- A gate is 0 where the facts hold: they say so, or its test is 0, or the gate around it.
@@ -83,9 +89,11 @@ unfoldable pub opened : (most : ℕ) → List Wire → List Fact → Operand →
 opened zero ws fs o = false
 opened (suc k) ws fs o = nonzero fs o || named_opened ws fs (opened k ws fs) o
 
+-- How many choices a read looks through.
 abbrev pub choices : ℕ
 choices = 64
 
+-- What a read sees through a choice that the facts decide.
 abbrev pub chosen_part : List Wire → List Fact → (again : Operand → Operand) → Operand → Option Right → Operand
 chosen_part ws fs again o (Some (Choose condition new old)) =
     if opened gates ws fs condition then again new else if excluded gates ws fs condition then again old else o
@@ -97,9 +105,11 @@ seen_through zero ws fs o = o
 seen_through (suc k) ws fs (Named n) = chosen_part ws fs (seen_through k ws fs) (Named n) (right_of ws n)
 seen_through (suc k) ws fs (Constant w x) = Constant w x
 
+-- What a read sees of an operand where the facts hold.
 abbrev pub seen : List Wire → List Fact → Operand → Operand
 seen ws fs o = seen_through choices ws fs o
 
+-- The same of a part.
 abbrev pub seen_part : List Wire → List Fact → Part → Part
 seen_part ws fs p = record { operand = seen ws fs p.operand; width = p.width }
 

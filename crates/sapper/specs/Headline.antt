@@ -1,6 +1,6 @@
--- The headline. A design compiles exactly when it is well formed. The module written, read by its grammar and clocked
+-- The headline. A design compiles exactly when it is well formed; the module written, read by its grammar and clocked
 -- on any tagged input stream, has in every cycle the values, tags, active states and refused writes of Sapper's
--- labelled meaning. For two streams that agree at or below a level, the module's runs agree there in every cycle,
+-- labelled meaning; and for two streams that agree at or below a level, the module's runs agree there in every cycle,
 -- timing included.
 use Rattle.std.specs.Prelude.{◌≡◌, ◌≢◌, ℕ, List, map, Some}
 use Rattle.sap_desk.specs.Desk.{Told}
