@@ -5,7 +5,7 @@ use Rattle.sap_bits.specs.declared.Op1.TheVariants.{Not, Neg, AllOnes, AnyOne, O
 use Rattle.sap_bits.specs.declared.Op2.{Op2}
 use Rattle.sap_bits.specs.declared.Op2.TheVariants.{Add, Sub, Mul, And, Or, Xor, Eq, Ne, Lt, Le, Shl, Shr}
 
--- All is modulo `2 ^ w`.
+-- The result of a unary operator on a number `a` of `w` bits.
 abbrev pub value1 : Op1 → (w a : ℕ) → ℕ
 value1 Not w a = 2 ^ w - 1 - a
 value1 Neg w a = (2 ^ w - a) % 2 ^ w
@@ -13,7 +13,8 @@ value1 AllOnes w a = if a == 2 ^ w - 1 then 1 else 0
 value1 AnyOne w a = if a == 0 then 0 else 1
 value1 Odd w a = count_ones a % 2
 
--- A shift by the width or more leaves nothing.
+-- The result of a binary operator on numbers of `w` bits. The count `b` of a shift may be any number: by `w` or more
+-- the result is 0.
 abbrev pub value2 : Op2 → (w a b : ℕ) → ℕ
 value2 Add w a b = (a + b) % 2 ^ w
 value2 Sub w a b = (2 ^ w + a - b) % 2 ^ w
@@ -28,7 +29,7 @@ value2 Le w a b = if nat_le a b then 1 else 0
 value2 Shl w a b = (a * 2 ^ b) % 2 ^ w
 value2 Shr w a b = a / 2 ^ b
 
--- The bits from `lo` up to `hi` are a number of their own.
+-- The bits of `a` from `lo` up to `hi`, as a number.
 abbrev pub slice_of : (a hi lo : ℕ) → ℕ
 slice_of a hi lo = a / 2 ^ lo % 2 ^ (hi + 1 - lo)
 
@@ -48,7 +49,7 @@ width1 Not w = w
 width1 Neg w = w
 width1 _ w = 1
 
--- The width of the result of a binary operator.
+-- The width of the result of a binary operator whose left operand has this width.
 abbrev pub width2 : Op2 → ℕ → ℕ
 width2 Eq w = 1
 width2 Ne w = 1

@@ -5,7 +5,7 @@ ghost use Rattle.std.specs.Prelude.{◌≡◌, ◌-◌, ◌^◌, ◌<◌, ◌≤
 ghost use Rattle.sap_bits.specs.Arithmetic.{value1, value2, slice_of, joined, RightFits};
 
 /// An operator on one number. `AllOnes`, `AnyOne` and `Odd` give one bit: whether all bits are 1,
-/// whether any is, and whether their number is odd.
+/// whether any is, and whether an odd number of them is.
 #[derive(Clone, Copy, PartialEq, Eq, Debug)]
 pub enum Op1 {
     Not,

@@ -23,18 +23,20 @@ use Rattle.sap_files.specs.Asks.{Asks, file, with_the, gives, prints, writes, st
 abbrev pub IsModuleText : Levels → DesignTree → (text : List ℕ) → Type 0
 IsModuleText ls d text = (net : Net) × IsModuleFor ls d net text
 
--- What is asked behind a word that is to be a level: where it names none, it is refused.
+-- What a command asks once its LEVEL is looked up: it is refused if that names no level, else it goes on with the
+-- level.
 abbrev pub at_level : (word : List ℕ) → (ℕ → Asks) → Option ℕ → Asks
 at_level word rest None = stops (level_refused word)
 at_level word rest (Some l) = rest l
 
--- What is written of two streams of a design, by where they first don't agree at a level.
+-- What a `twin` asks of two streams, by where they first don't agree: it gives its line if they agree, else it is
+-- refused.
 abbrev pub compared : Levels → DesignTree → (l : ℕ) → (word : List ℕ) → (one other : List (List Tagged))
     → Option Apart → Asks
 compared ls d l word one other None = gives (IsAgreement ls d l one other word)
 compared ls d l word one other (Some apart) = stops (difference d apart)
 
--- Two streams of a design compared at a level.
+-- What a `twin` asks after its design: it reads both stimuli and compares them at the level.
 abbrev pub asks_streams : Levels → DesignTree → (first second word : List ℕ) → (l : ℕ) → Asks
 asks_streams ls d first second word l =
     file first (stream_file 1 ls d) (λ one. file second (stream_file 2 ls d) (λ other.
@@ -66,7 +68,7 @@ asks machine = asks_machine
 asks (asm first second n) = asks_asm first second n
 asks (cpu first second n) = asks_cpu first second n
 
--- What words ask that may be no command.
+-- What arguments ask: what their command asks, or a refusal if they are no command.
 abbrev pub asks_if : Option Words → Asks
 asks_if None = stops no_command
 asks_if (Some c) = asks c

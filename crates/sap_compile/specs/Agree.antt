@@ -17,14 +17,14 @@ use Rattle.sap_interface.specs.StandsFor.{Named, name, world, depth, StandsFor}
 use Rattle.sap_interface.specs.Compiled.{coded_stream}
 use Rattle.sap_interface.specs.Designs.{named_of, site_count_of}
 
--- The store is a state of the design between two cycles: its numbers are within their widths, and its levels are those
--- of the lattice.
+-- The store is a state of the design between two cycles: it keeps what every such state keeps, its numbers are within
+-- their widths, and its levels are the lattice's.
 pub record IsState (d : Named) (s : Store) : Type 0 where
   pub rests : Resting (world d) s
   pub fits : Fits (world d) s
 
--- Two cycles of a module agree at `l`: they stand for states of the design, and for refusals, that agree at `l`. This
--- speaks of the design; `CyclesLookAlike` says what the numbers of the module themselves have.
+-- Two cycles of a module agree at `l`: they stand for states of the design, and for refusals, that agree at `l`.
+-- `CyclesLookAlike` gives what the module's numbers themselves show.
 pub record CyclesAgree (d : Named) (sites l : ℕ) (v u : Valuation) : Type 0 where
   pub one : After
   pub other : After
@@ -55,11 +55,12 @@ shown_cell_tag d v m i = v.cell (tag_name (name d m)) i
 abbrev pub shown_child : Named → Valuation → ℕ → ℕ
 shown_child d v p = v.value (seat_name (name d p))
 
--- They show the active path from the root on, by the places of current children and the tags of states.
+-- The active path that a cycle's numbers show, from the root on, by the places of current children and the tags of
+-- states.
 abbrev pub shown_path : Named → Valuation → List ActiveState
 shown_path d v = path_from (shown_child d v) (shown_tag d v) d.program.states (v.value root_seat)
 
--- The place of each current child is a child's.
+-- The place of each current child, of the root and of each state with children, is below the number of children.
 pub record AreChildren (d : Named) (v : Valuation) : Type 0 where
   pub of_root : 0 < children (world d) (root (world d)) → v.value root_seat < children (world d) (root (world d))
   pub of_state : (p : ℕ) → p < root (world d) → 0 < children (world d) p → shown_child d v p < children (world d) p
@@ -69,8 +70,8 @@ abbrev pub IsToldAt : Named → (l : ℕ) → Valuation → (k n : ℕ) → Type
 IsToldAt d l v k n = (v.value (refused_name k) ≡ 1) × (v.value (refused_level_name k) ≡ n)
     × IsLowCode (world d).order d.code l n
 
--- What a reader of two cycles' numbers sees at l: registers, cells and active paths look alike, the tags of enforced
--- entities whose authority is at or below l are equal, and the same sites are refused at levels at or below l.
+-- What a reader of two cycles' numbers sees at l: registers, cells and active paths look alike, and the refusals at
+-- levels at or below l are the same. The tags of enforced entities whose authority is at or below l are equal.
 pub record CyclesLookAlike (d : Named) (sites l : ℕ) (v u : Valuation) : Type 0 where
   pub registers : (x : ℕ) → is_register (world d) x ≡ true
       → LookAlike (world d).order d.code l (shown_value d v x ≡ shown_value d u x) (shown_tag d v x) (shown_tag d u x)
@@ -95,8 +96,8 @@ pub record CyclesLookAlike (d : Named) (sites l : ℕ) (v u : Valuation) : Type 
   pub paths : PathsRelated (LookAlike (world d).order d.code l) (shown_path d v) (shown_path d u)
   pub refusals : (k n : ℕ) → 1 ≤ k → k ≤ sites → (IsToldAt d l v k n) ↔ (IsToldAt d l u k n)
 
--- For every level l, and every two streams that fit the design and agree at l, their levels given as codes: what is
--- seen of the netlist's runs is so related at l, cycle n with cycle n.
+-- Take any level l, and two streams that fit the design and agree at l, their levels given as codes. Then `Pair l`
+-- holds of what is seen of the netlist's runs on them, cycle n with cycle n.
 abbrev pub OnAgreeingStreams : Levels → DesignTree → Net → (Pair : (l : ℕ) → Valuation → Valuation → Type 0) → Type 0
 OnAgreeingStreams ls d n Pair =
     (l : ℕ) (a b : List (List Tagged)) → StreamFits (world (named_of ls d)) a
@@ -105,10 +106,12 @@ OnAgreeingStreams ls d n Pair =
     → IsRun n (coded_stream (named_of ls d).code b) us
     → AllZip (Pair l) (map (observed n) vs) (map (observed n) us)
 
--- The runs agree: they stand for states and refusals that do, whatever numbers stand for them.
+-- On streams that agree at a level, the runs of a netlist stand for states and refusals that agree there in every
+-- cycle.
 abbrev pub RunsAgree : Levels → DesignTree → Net → Type 0
 RunsAgree ls d n = OnAgreeingStreams ls d n (CyclesAgree (named_of ls d) (site_count_of d))
 
--- The runs look alike: their numbers show it, so that a reader who has only these and the tags can tell.
+-- On streams that agree at a level, the numbers of a netlist's runs look alike there in every cycle, to a reader who
+-- sees only numbers and tags.
 abbrev pub RunsLookAlike : Levels → DesignTree → Net → Type 0
 RunsLookAlike ls d n = OnAgreeingStreams ls d n (CyclesLookAlike (named_of ls d) (site_count_of d))

@@ -1,4 +1,4 @@
--- The fault of each part as one of compiling: want of memory stays want of memory.
+-- The fault of each part as one of compiling: out of memory stays out of memory.
 use Rattle.sap_latfile.specs.declared.fault.LatFileFault.{LatFileFault}
 use Rattle.sap_latfile.specs.declared.fault.LatFileFault.TheVariants as lattice_fault
 use Rattle.sap_names.specs.declared.fault.CheckFault.{CheckFault}

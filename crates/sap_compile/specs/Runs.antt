@@ -18,7 +18,7 @@ pub record HasOneRun (n : Net) (inputs : List (List ℕ)) : Type 0 where
   pub is_run : IsRun n inputs run
   pub only : (other : List Valuation) → IsRun n inputs other → AreSameRuns n run other
 
--- So it is on every stream that fits the design, its levels given as codes.
+-- On every stream that fits the design, its levels given as codes, the netlist has exactly one run.
 abbrev pub HasOneRunOnStreams : Levels → DesignTree → Net → Type 0
 HasOneRunOnStreams ls d n =
     (stream : List (List Tagged)) → StreamFits (world (named_of ls d)) stream

@@ -8,7 +8,8 @@ use Rattle.sap_desk.specs.declared.error.DeskError.TheVariants.{Failed, Memory}
 abbrev pub counted : ℕ → ℕ
 counted count = min (count + 1) (2 ^ 64 - 1)
 
--- What a read gave: the next bytes, in the front of the buffer; none into some buffer is the end.
+-- A read gave the next `count` bytes of the channel, at the front of the buffer. If it gave none and the buffer isn't
+-- empty, no bytes are left.
 pub record Gave (t : Told) (channel count : ℕ) (before after : List ℕ) : Type 0 where
   pub reading : IsReading (t.uses channel)
   pub piece : take count after ≡ take count (rest_of t channel)

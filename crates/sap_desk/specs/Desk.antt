@@ -13,7 +13,7 @@ pub data Use : Type 0 where
   -- for writing a standard stream: channels 1 and 2
   stream : Use
 
--- Names and contents are bytes, and a channel is its number.
+-- What a desk reports of its state. Names and contents are bytes, and a channel is its number.
 pub record Told : Type 0 where
   -- the bytes of the file of a name, if there is one
   pub files : List ℕ → Option (List ℕ)
@@ -49,21 +49,21 @@ rest_of_use t stream = []
 abbrev pub rest_of : Told → ℕ → List ℕ
 rest_of t channel = rest_of_use t (t.uses channel)
 
--- Open for reading.
+-- The use is open for reading.
 abbrev pub IsReading : Use → Type 0
 IsReading (reads name asked position) = Unit {0}
 IsReading (writes name) = ⊥
 IsReading closed = ⊥
 IsReading stream = ⊥
 
--- Open for writing.
+-- The use is open for writing a file or a standard stream.
 abbrev pub IsWriting : Use → Type 0
 IsWriting (reads name asked position) = ⊥
 IsWriting (writes name) = Unit {0}
 IsWriting closed = ⊥
 IsWriting stream = Unit {0}
 
--- Open for either.
+-- The use is open for reading or for writing.
 abbrev pub IsOpen : Use → Type 0
 IsOpen (reads name asked position) = Unit {0}
 IsOpen (writes name) = Unit {0}
@@ -76,19 +76,19 @@ IsOpen stream = Unit {0}
 abbrev pub opened : ℕ → List ℕ → Told → Told
 opened channel name t = record t { uses = at_number channel (reads name 0 0) t.uses }
 
--- The use after so many bytes were read.
+-- The use after a read that gave `count` bytes: the read was asked for at the position, which moves on by `count`.
 abbrev pub moved_use : ℕ → Use → Use
 moved_use count (reads name asked position) = reads name position (position + count)
 moved_use count (writes name) = writes name
 moved_use count closed = closed
 moved_use count stream = stream
 
--- `read`: it was asked for at the position, which moves on by what was given; where it fails, by nothing.
+-- `read` was asked for at the channel's position, which moves on by the bytes that it gave. A failed read gave none.
 abbrev pub moved : ℕ → ℕ → Told → Told
 moved channel count t = record t { uses = at_number channel (moved_use count (t.uses channel)) t.uses }
 
--- What reads in a row make of a use: they gave `count` bytes, and the last of them was asked for once `asked` of these
--- were given, if there was one.
+-- The use after reads that gave `count` bytes in all. The last of them, if there was one, was asked for after `asked`
+-- of these bytes.
 abbrev pub read_on_use : (asked : Option ℕ) → (count : ℕ) → Use → Use
 read_on_use None count (reads name last position) = reads name last (position + count)
 read_on_use (Some few) count (reads name last position) = reads name (position + few) (position + count)
@@ -96,7 +96,7 @@ read_on_use asked count (writes name) = writes name
 read_on_use asked count closed = closed
 read_on_use asked count stream = stream
 
--- `read`, any number of times, on one channel.
+-- The state after any number of reads on one channel, as in `read_on_use`.
 abbrev pub read_on : (channel : ℕ) → (asked : Option ℕ) → (count : ℕ) → Told → Told
 read_on channel asked count t = record t { uses = at_number channel (read_on_use asked count (t.uses channel)) t.uses }
 
@@ -115,7 +115,7 @@ added_to (writes name) piece files = at_name name (Some (unwrap_or (files name) 
 added_to closed piece files = files
 added_to stream piece files = files
 
--- `write`: the channel has the piece more, and so has its file where the channel is above 2.
+-- `write` adds the piece to the channel, and to the channel's file if the channel is above 2.
 abbrev pub added : ℕ → List ℕ → Told → Told
 added channel piece t = record t {
   files = cond (ltb 2 channel) (added_to (t.uses channel) piece t.files) t.files;
@@ -128,7 +128,7 @@ finished channel t = record t { uses = at_number channel closed t.uses }
 
 -- What a call makes of the desk where it answers Failed.
 
--- What a desk tells, with this blamed.
+-- What a desk reports, with this name blamed.
 abbrev pub blamed : List ℕ → Told → Told
 blamed name t = record t { blame = name }
 
@@ -159,6 +159,6 @@ name_if_open (writes name) = name
 name_if_open closed = []
 name_if_open stream = []
 
--- What a list tells by place, and past its end.
+-- What `f` gives for the k-th item of a list, or `none` past its end.
 abbrev pub placed : {X A : Type 0} → (X → A) → A → List X → ℕ → A
 placed f none xs k = unwrap_or (option_map f (slice_get xs k)) none

@@ -5,7 +5,7 @@ use Rattle.std.specs.Borrow.{Bor}
 use Rattle.sap_desk.specs.Desk.{Told, Use, closed, reads, writes, stream, IsOpen, at_name, at_number, bytes_of, blamed, added, name_if_reading, read_on, rest_of}
 use Rattle.sap_desk.specs.Cause.{counted}
 
--- Where the desk tells its contents, this holds of those before and those after.
+-- If the desk reports its contents before the call, it reports them after it, and `R` holds of both.
 abbrev pub Between : Option Told → Option Told → (Told → Told → Type 0) → Type 0
 Between before after R = IfSome before (λ t. IsSomeAnd after (λ n. R t n))
 
@@ -19,7 +19,7 @@ pub record SameChannels (t n : Told) : Type 0 where
   pub open_use : (k : ℕ) → IsOpen (t.uses k) → n.uses k ≡ t.uses k
   pub open_written : (k : ℕ) → IsOpen (t.uses k) → n.written k ≡ t.written k
 
--- Open for the file of a name.
+-- The use reads or writes the file of this name.
 abbrev pub IsFor : List ℕ → Use → Type 0
 IsFor name (reads owner asked position) = owner ≡ name
 IsFor name (writes owner) = owner ≡ name
@@ -57,16 +57,16 @@ pub data IsFront (limit : ℕ) (whole part : List ℕ) : Type 0 where
   all : part ≡ whole → IsFront limit whole part
   more : limit < length part → (rest : List ℕ) → part ++ rest ≡ whole → IsFront limit whole part
 
--- How far a text is read by pieces of at most 4096 bytes, to its end, or until more bytes than a limit were got: the
--- last piece was asked for at one place, where no more than the limit were got, and ends at another.
+-- How far a text may be read, in pieces of at most 4096 bytes. The last piece was asked for at `asked`, after no more
+-- bytes than the limit, if there is one, and ends at `position`, which may be before the text's end.
 pub record IsReadTo (limit : Option ℕ) (bytes : List ℕ) (asked position : ℕ) : Type 0 where
   pub within : position ≤ length bytes
   pub from : asked ≤ position
   pub piece : position ≤ asked + 4096
   pub most : IfSome limit (λ most. asked ≤ most)
 
--- So many bytes were read so of what a channel had left, and then this came of the desk, by the name of the file that
--- the channel reads.
+-- `count` bytes were read of what a channel had left, as in `IsReadTo`. Then the state changed by `then`, of the name
+-- of the file that the channel reads.
 pub record ReadTo (limit channel count : ℕ) (then : (name : List ℕ) → Told
     → Told) (before now : Option Told) : Type 0 where
   pub asked : ℕ
@@ -74,7 +74,8 @@ pub record ReadTo (limit channel count : ℕ) (then : (name : List ℕ) → Told
   pub told : now ≡ option_map (λ t. then (name_if_reading (t.uses channel))
       (read_on channel (Some asked) count t)) before
 
--- A channel that wasn't open stands in the file of a name, which is read so far, and every other is as before.
+-- A channel that wasn't open reads the file of a name, and is as far in it as `IsReadTo` allows. Every other channel is
+-- as before.
 pub record StandsWithin (limit : Option ℕ) (name : List ℕ) (t : Told) (before after : ℕ → Use) : Type 0 where
   pub channel : ℕ
   pub above : 2 < channel
@@ -84,15 +85,16 @@ pub record StandsWithin (limit : Option ℕ) (name : List ℕ) (t : Told) (befor
   pub uses : after ≡ at_number channel (reads name asked position) before
   pub read : IsReadTo limit (bytes_of t name) asked position
 
--- What is open after a failed call on such a file: what was open before, and the channel of that call where it has one.
+-- What is open after a failed call on a file that is read: what was open before, and the call's channel, if it had one,
+-- as in `StandsWithin`.
 abbrev pub OpenWithin : (limit : Option ℕ) → (name : List ℕ) → Told → (before after : ℕ → Use) → Type 0
 OpenWithin limit name t before after = (after ≡ before) ⊎ StandsWithin limit name t before after
 
--- So it is open.
+-- What is open before and after a call is as in `OpenWithin`.
 abbrev pub StoodWithin : (limit : Option ℕ) → List ℕ → Told → Told → Type 0
 StoodWithin limit name t n = OpenWithin limit name t t.uses n.uses
 
--- This is got of the file of a name.
+-- There is a file of this name, and `part` is what is got of it by reading it up to the limit.
 pub record IsFrontOf (limit : ℕ) (name part : List ℕ) (t : Told) : Type 0 where
   pub whole : List ℕ
   pub file : t.files name ≡ Some whole
@@ -165,6 +167,6 @@ LostAtMostOne lost lost_now = (lost_now ≡ lost) ⊎ (lost_now ≡ counted lost
 abbrev pub joined : List (Bor (List ℕ)) → List ℕ
 joined parts = flat_map (λ part. part.now) parts
 
--- And the end of the line.
+-- The parts one after another, and then the end of a line.
 abbrev pub line_of : List (Bor (List ℕ)) → List ℕ
 line_of parts = joined parts ++ 10 ∷ []

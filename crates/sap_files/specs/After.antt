@@ -10,23 +10,23 @@ use Rattle.sap_files.specs.Contents.{Has}
 use Rattle.sap_files.specs.Asks.{Asks, IsPrefix, file, with_the, gives, prints, writes, stops}
 use Rattle.sap_files.specs.Ending.{Ending, done, refused, failed, no_memory}
 
--- A failed call blames its file, or the output; else whom the desk blamed before, it still blames.
+-- Whom the desk blames after a command: the file of the failed call, or `output`. If no call failed, it blames whom it
+-- blamed before.
 abbrev pub Blames : (before blame : List ℕ) → Ending → Type 0
 Blames before blame done = blame ≡ before
 Blames before blame (refused why) = blame ≡ before
 Blames before blame (failed name) = blame ≡ name
 Blames before blame no_memory = blame ≡ before
 
--- This is the beginning of what these bytes give.
+-- `gained` is a beginning of the text that these bytes give.
 abbrev pub IsBegun : Prints → (bytes gained : List ℕ) → Type 0
 IsBegun text bytes gained = (whole : List ℕ) × text bytes whole × IsPrefix gained whole
 
--- What stands after a failed call, which blames this: what is open, and what channel 1 gained. After one on a file that
--- is read, or written, whole it is what was open before, and that call's channel too, if it has one, and nothing was
--- gained; a file that is read stands as `OpenWithin` has it. Where a stimulus is printed line by line, nothing was
--- gained and nothing more is open if it could not be opened; else its channel is open too, after a call on the output
--- as well, since no further call is made, and how far it was read, and what was written by then, is as `StaysOpen` has
--- it: the beginning of what the bytes give that were read.
+-- What is open after a failed call that blames `blamed`, and what standard output gained. A file that is read whole, or
+-- written: nothing was gained, and its channel may be open; `OpenWithin` gives how far it was read. Standard output,
+-- written at once: all is open as before. A stimulus that is printed line by line: nothing was gained if it wasn't
+-- opened. Else its channel is open, and `StaysOpen` gives how far it was read and what was written, a beginning of what
+-- the bytes read give. That no further call was made follows from the counts of failed calls.
 abbrev pub StandsFailed : Asks → Told → (blamed gained : List ℕ) → (before after : ℕ → Use) → Type 0
 StandsFailed (file name k rest) t blamed gained before after =
     ((blamed ≡ name) × (gained ≡ []) × OpenWithin k.most name t before after)
@@ -43,8 +43,8 @@ StandsFailed (writes name text) t blamed gained before after =
     (blamed ≡ name) × (gained ≡ []) × OpenAfterFault name before after
 StandsFailed (stops why) t blamed gained before after = ⊥
 
--- What stands after a command that wrote this on channel 1: what is open, and where it reads, but for a failed call all
--- as before.
+-- What is open after a command that wrote `gained` on standard output, and how far it is read. All is as before, unless
+-- a call failed.
 abbrev pub Stands : Asks → Told → Ending → (gained : List ℕ) → (before after : ℕ → Use) → Type 0
 Stands a t done gained before after = after ≡ before
 Stands a t (refused why) gained before after = after ≡ before

@@ -23,17 +23,17 @@ pub data Asks : Type 1 where
   -- writes nothing, and is refused
   stops : Refusal → Asks
 
--- How a command ends behind what it prints: as the stimulus does, by its first fault, if any.
+-- How a command ends that prints a stimulus: done, or refused by the first fault of the stimulus.
 abbrev pub end_of : Option StimFault → Ending
 end_of None = done
 end_of (Some fault) = refused (stimulus_refused 1 fault)
 
--- The file of this name is refused, and so the command ends.
+-- The file of this name is refused as one of this kind, and the command ends with that refusal.
 abbrev pub EndsAtFile : Told → (name : List ℕ) → Kind → Ending → Type 0
 EndsAtFile t name k e = (why : Refusal) × (e ≡ refused why) × IsRefused t name k why
 
--- Why a command ends so: of its files, in order, this is the first that is refused; or all stand for values, and it
--- comes to its end.
+-- The arguments and files are a cause of this ending. It is the refusal of the first file, in order, that is refused;
+-- or all files stand for values, and it is how the command's last step ends.
 abbrev pub Cause : Asks → Told → Ending → Type 0
 Cause (file name k rest) t e = EndsAtFile t name k e ⊎ ((v : k.Value) × Has t name k.Stands v × Cause (rest v) t e)
 Cause (with_the V Holds rest) t e = (v : V) × Holds v × Cause (rest v) t e
@@ -42,7 +42,7 @@ Cause (prints name text fault) t e = (bytes : List ℕ) × (t.files name ≡ Som
 Cause (writes name text) t e = e ≡ done
 Cause (stops why) t e = e ≡ refused why
 
--- It can end so, whatever its files are.
+-- A command that asks this can end so for some contents of its files.
 abbrev pub MayEnd : Asks → Ending → Type 0
 MayEnd (file name k rest) e =
     ((bytes : List ℕ) × (why : Refusal) × (e ≡ refused why) × k.Refused bytes why)
@@ -53,7 +53,7 @@ MayEnd (prints name text fault) e = (bytes : List ℕ) × (e ≡ end_of (fault b
 MayEnd (writes name text) e = e ≡ done
 MayEnd (stops why) e = e ≡ refused why
 
--- What channel 1 gains where it ends so: nothing where a file is refused, and else the text that it gives.
+-- What standard output gains if a command ends so: nothing if a file is refused, else the text that the command gives.
 abbrev pub Shows : Asks → Told → Ending → (gained : List ℕ) → Type 0
 Shows (file name k rest) t e gained =
     (EndsAtFile t name k e × (gained ≡ [])) ⊎ ((v : k.Value) × Has t name k.Stands v × Shows (rest v) t e gained)
@@ -68,7 +68,7 @@ Shows (stops why) t e gained = (e ≡ refused why) × (gained ≡ [])
 abbrev pub IsOutput : Asks → Told → (text : List ℕ) → Type 0
 IsOutput a t text = (e : Ending) × Shows a t e text
 
--- A part of a text from its first byte on.
+-- `part` is a beginning of `whole`.
 abbrev pub IsPrefix : (part whole : List ℕ) → Type 0
 IsPrefix part whole = (k : ℕ) × (k ≤ length whole) × (part ≡ take k whole)
 
@@ -87,7 +87,8 @@ Output a t gained no_memory = gained ≡ []
 abbrev pub Files : Type 0
 Files = List ℕ → Option (List ℕ)
 
--- The files where it is done: the one that it writes has such a text, and all others are as before.
+-- The files after a command that is done: the file that it writes has a text that it asks for, and all others are as
+-- before.
 abbrev pub Written : Asks → Told → Files → Type 0
 Written (file name k rest) t files = (v : k.Value) × Has t name k.Stands v × Written (rest v) t files
 Written (with_the V Holds rest) t files = (v : V) × Holds v × Written (rest v) t files
@@ -96,8 +97,8 @@ Written (prints name text fault) t files = files ≡ t.files
 Written (writes name text) t files = (whole : List ℕ) × text whole × (files ≡ at_name name (Some whole) t.files)
 Written (stops why) t files = files ≡ t.files
 
--- The files where it was cut off in writing, which blames this: the one that it writes, and that is blamed, has a
--- prefix of such a text.
+-- The files after a failed call on the file that the command writes: that file is blamed and has a beginning of a text
+-- that the command asks for. All others are as before.
 abbrev pub WrittenInPart : Asks → Told → (blamed : List ℕ) → Files → Type 0
 WrittenInPart (file name k rest) t blamed files =
     (v : k.Value) × Has t name k.Stands v × WrittenInPart (rest v) t blamed files

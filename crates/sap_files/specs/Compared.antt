@@ -40,12 +40,12 @@ input_names (e ∷ es) = if is_input e.what then e.name.name ∷ input_names es 
 abbrev pub input_name : DesignTree → (place : ℕ) → List ℕ
 input_name d place = get_or (input_names (entities_of d)) place []
 
--- What is told of streams that don't agree.
+-- The refusal of two streams that don't agree.
 abbrev pub difference : DesignTree → Apart → Refusal
 difference d (Lengths one other) = lengths_apart one other
 difference d (At cycle input) = inputs_apart cycle (input_name d input)
 
--- And of streams that agree.
+-- The line that `twin` writes of two streams that agree at a level.
 abbrev pub agreement_line : (level : List ℕ) → (cycles : ℕ) → List ℕ
 agreement_line level cycles = line (codes "agree at " ++ level ++ codes " for " ++ decimal cycles ++ codes " cycles")
 

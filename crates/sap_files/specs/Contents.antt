@@ -18,8 +18,8 @@ pub record Has {V : Type 0} (t : Told) (name : List ℕ) (Stands : List ℕ → 
 abbrev pub table_by : ℕ → (ℕ → ℕ → Bool) → List (List Bool)
 table_by count le = map (λ x. map (le x) (numbers count)) (numbers count)
 
--- The bytes are those of a lattice file with these levels. Of the tables that give the same order, theirs is the one
--- with as many rows and places as levels.
+-- The bytes are a lattice file with these levels. The table of `ls` has one row for each level, and one place in it for
+-- each, so a file has one such value.
 pub record IsLatticeFile (bytes : List ℕ) (ls : Levels) : Type 0 where
   pub lattice : IsLatticeOfFile bytes ls
   pub table : ls.table ≡ table_by (length ls.names) (order_of ls).le

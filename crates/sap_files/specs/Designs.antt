@@ -42,14 +42,14 @@ ReadsDesign name (Ok front) before after = (bytes : List ℕ) × Reads name byte
     × IsFront most_bytes bytes front
 ReadsDesign name (Err e) before after = Stops (Some most_bytes) name (design_ending name e) before after
 
--- What its bytes give.
+-- What the bytes of a design file give: a checked design, or why there is none.
 abbrev pub IsChecked : Levels → (source : List ℕ) → Result Checked DesignFailure → Type 0
 IsChecked ls source (Ok c) = IsWellFormedText ls source (tree_in c) × (levels_in c ≡ ls)
 IsChecked ls source (Err (Refused fault)) = IsDesignFault ls source fault
 IsChecked ls source (Err Failed) = ⊥
 IsChecked ls source (Err Memory) = Unit {0}
 
--- What the file gives.
+-- A design file was read as a design that is well formed over these levels, or the command ended there.
 abbrev pub GetsDesign : Levels → (name : List ℕ) → Result Checked DesignFailure → Moment → Moment → Type 0
 GetsDesign ls name (Ok c) before after = (bytes : List ℕ) × Reads name bytes before after
     × IsWellFormedText ls bytes (tree_in c) × (levels_in c ≡ ls)

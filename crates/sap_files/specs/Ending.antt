@@ -90,7 +90,7 @@ abbrev pub design_text : DesignFault → List ℕ
 design_text (Read fault) = read_text fault
 design_text (Check fault) = check_text fault
 
--- What a refusal is told by.
+-- The text of a refusal on standard error, without the end of its line.
 abbrev pub refusal_text : Refusal → List ℕ
 refusal_text no_command = codes "words"
 refusal_text (lattice_refused fault) = codes "lattice: " ++ lattice_text fault
@@ -107,7 +107,7 @@ refusal_text (inputs_apart cycle name) = codes "streams: cycle " ++ decimal cycl
 refusal_text (wave_refused fault) = codes "wave: " ++ wave_text fault
 refusal_text (asm_refused place fault) = assembly_text place fault
 
--- Nothing where the call is done.
+-- What an ending writes on standard error: its line, or nothing if the command is done.
 abbrev pub line_of : Ending → List ℕ
 line_of done = []
 line_of (refused why) = line (refusal_text why)

@@ -90,7 +90,8 @@ module_file = record {
 
 -- Stimulus files whose every line is taken, the first or the second of the words, by what bytes are read as.
 
--- A stimulus file, as it is parsed.
+-- The kind of a stimulus file, the first or the second of the arguments: every line is taken. `read` is how bytes are
+-- parsed.
 abbrev pub stream_by : (place : ℕ) → (read : List ℕ → Parsed) → Kind
 stream_by place read = record {
   most = None;
@@ -99,11 +100,11 @@ stream_by place read = record {
   Refused = λ bytes why. (fault : StimFault) × (why ≡ stimulus_refused place fault) × ((read bytes).fault ≡ Some fault);
 }
 
--- Those of a design.
+-- The kind of a stimulus file of a design.
 abbrev pub stream_file : (place : ℕ) → Levels → DesignTree → Kind
 stream_file place ls d = stream_by place (read_for ls d)
 
--- And of a module.
+-- The kind of a stimulus file of a module.
 abbrev pub module_stream_file : Levels → Net → Kind
 module_stream_file ls net = stream_by 1 (read_for_module ls net)
 
@@ -116,7 +117,7 @@ wave_file = record {
   Refused = λ bytes why. (fault : WaveFault) × (why ≡ wave_refused fault) × IsWaveFault bytes fault;
 }
 
--- Assembly, the first file or the second of the words: it stands for its sixteen words.
+-- The kind of an assembly file, the first or the second of the arguments: it stands for its sixteen machine words.
 abbrev pub assembly_file : (place : ℕ) → Kind
 assembly_file place = record {
   most = None;

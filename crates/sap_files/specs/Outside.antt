@@ -19,8 +19,9 @@ abbrev pub IsUnreadable : (most : Option ℕ) → (name : List ℕ) → Told →
 IsUnreadable None name t = MissingOrLong name t
 IsUnreadable (Some most) name t = t.files name ≡ None
 
--- A file that the command reads can't be read, those before it standing for values; of a stimulus that is printed line
--- by line as much can't be read as tells its refused line; or what the command writes fills the room.
+-- Why a call of this command failed, on a desk on which none is still to fail by its number. Either a file can't be
+-- read, those before it standing for values; or a stimulus can't be read up to its refused line; or what is written
+-- fills the room.
 abbrev pub OutsideOf : Asks → Told → Told → Type 0
 OutsideOf (file name k rest) t n = IsUnreadable k.most name t
     ⊎ ((v : k.Value) × Has t name k.Stands v × OutsideOf (rest v) t n)

@@ -168,7 +168,7 @@ pub record NotRead (most : Option ℕ) (name : List ℕ) (e : Ending) (rose : Ty
   pub opens : OpensUnread most name e t t.uses n.uses
   pub outside : rose → IsUnreadable most name t
 
--- And so the command ended.
+-- A file could not be read, by a failed call or out of memory, and the command ended there.
 pub record Stops (most : Option ℕ) (name : List ℕ) (e : Ending) (before after : Moment) : Type 0 where
   pub free : IsFree e
   pub told : Between before.told after.told (NotRead most name e (FaultRose before after))
@@ -211,7 +211,7 @@ Tags ls net (Ok tagged) = HasRoomForTags net × HasTaintOf (order_of ls) net tag
 Tags ls net (Err e) = (ending e ≡ no_memory)
     ⊎ ((x : List ℕ) × IsClash net x × (ending e ≡ refused (taint_refused (taint_fault.Clash x))))
 
--- And the text of its module.
+-- What a module gives to which tags are added: the text of the module with tags, or why there is none.
 abbrev pub Taints : Levels → Net → Result (List ℕ) Failure → Type 0
 Taints ls net (Ok text) = HasRoomForTags net × IsTaintedText ls net text
 Taints ls net (Err e) = (ending e ≡ no_memory)
@@ -224,13 +224,13 @@ abbrev pub EndsReading : (name : List ℕ) → Kind → Ending → Moment → Mo
 EndsReading name k e before after = Stops k.most name e before after
     ⊎ ((bytes : List ℕ) × Reads name bytes before after × Refuses k bytes e)
 
--- Its bytes stand for a value, or the command ends there.
+-- A file of a kind was read and its bytes stand for a value, or the command ended there.
 abbrev pub Gets : (name : List ℕ) (k : Kind) → {T : Type 0} → (T → k.Value) → Result T Failure → Moment
     → Moment → Type 0
 Gets name k value (Ok x) before after = (bytes : List ℕ) × Reads name bytes before after × k.Stands bytes (value x)
 Gets name k value (Err e) before after = EndsReading name k (ending e) before after
 
--- The same of a design file over the levels of a lattice.
+-- A design file was read as a design that is well formed over these levels, or the command ended there.
 abbrev pub GetsChecked : Levels → (name : List ℕ) → Result Checked Failure → Moment → Moment → Type 0
 GetsChecked ls name (Ok c) before after = (bytes : List ℕ) × Reads name bytes before after
     × IsWellFormedText ls bytes (tree_in c) × (levels_in c ≡ ls)

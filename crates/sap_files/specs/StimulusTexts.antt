@@ -22,12 +22,12 @@ IsModuleStream ls net = IsWholeStream (read_for ls net)
 abbrev pub AreDesignRows : Levels → DesignTree → (bytes text : List ℕ) → Type 0
 AreDesignRows ls d bytes text = (fault : Option StimFault) × IsRunOf ls d bytes (record { text = text; fault = fault })
 
--- The lines of its trace, likewise.
+-- The text is the lines of the trace of a design's run on a stimulus, or on its lines before the first that is refused.
 abbrev pub AreTraceLines : Levels → DesignTree → (bytes text : List ℕ) → Type 0
 AreTraceLines ls d bytes text = (fault : Option StimFault)
     × IsTraceOf ls d bytes (record { text = text; fault = fault })
 
--- And the rows of a module's run.
+-- The text is the rows of a module's run on a stimulus, or on its lines before the first that is refused.
 abbrev pub AreModuleRows : Levels → Net → (bytes text : List ℕ) → Type 0
 AreModuleRows ls net bytes text = (fault : Option StimFault)
     × IsSimulated ls net bytes (record { text = text; fault = fault })

@@ -12,9 +12,10 @@ use Rattle.sap_taint_pass.specs.declared.fault.TaintFault.TheVariants.{Clash}
 use Rattle.sap_files.specs.Ending.{taint_refused}
 use Rattle.sap_files.specs.Asks.{Asks, writes, stops}
 
--- The netlist has the names and ports of another, each with its tag behind it, tags as wide as codes of levels; it
--- takes what that takes, with tags, and has exactly one run on it, in which names have the numbers of the other's run
--- and tags its taint; codes stay codes; and on streams that agree at a level its runs agree there in every cycle.
+-- `tagged` is the netlist `net` with tags. It has the names and ports of `net`, each followed by its tag, which is as
+-- wide as codes of levels. It takes what `net` takes, with tags, and has exactly one run on it. There the names have
+-- the numbers of the run of `net`, and the tags its taint. Codes stay codes, and on streams that agree at a level its
+-- runs agree there in every cycle.
 pub record HasTaintOf (o : Order) (net tagged : Net) : Type 0 where
   pub form : HasTaggedForm (width_of o) net tagged
   pub takes : TakesTags (width_of o) net tagged

@@ -51,7 +51,7 @@ asks_unwave lattice dump =
 abbrev pub asks_machine : Asks
 asks_machine = gives (λ text. text ≡ machine_text)
 
--- What is given of the words of two assembly files.
+-- What `asm` and `cpu` ask: they read two assembly files, and give a text of the machine words of both.
 abbrev pub asks_programs : (text_of : (a b : List ℕ) → List ℕ) → (first second : List ℕ) → Asks
 asks_programs text_of first second =
     file first (assembly_file 1) (λ a. file second (assembly_file 2) (λ b. gives (λ text. text ≡ text_of a b)))

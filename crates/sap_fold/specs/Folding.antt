@@ -31,16 +31,16 @@ abbrev pub is_number : Operand → ℕ → Bool
 is_number (Named x) n = false
 is_number (Constant w m) n = m == n
 
--- A number of one bit.
+-- The operand is a constant of width 1 and of this number.
 abbrev pub is_bit : Operand → ℕ → Bool
 is_bit (Named x) n = false
 is_bit (Constant w m) n = w == 1 && m == n
 
--- A width, and a number within it.
+-- `w` is a width from 1 to 64, and the number is within it.
 abbrev pub fits : (w n : ℕ) → Bool
 fits w n = nat_le 1 w && nat_le w 64 && nat_le n (2 ^ w - 1)
 
--- All bits 1.
+-- The operand is a constant whose bits are all 1.
 abbrev pub is_full : Operand → Bool
 is_full (Named x) = false
 is_full (Constant w n) = fits w n && n == 2 ^ w - 1
@@ -52,7 +52,7 @@ same_operand (Named x) (Constant w n) = false
 same_operand (Constant w n) (Named y) = false
 same_operand (Constant w n) (Constant u m) = w == u && n == m
 
--- An operator on a constant.
+-- What an operator of one operand gives: a number, if the operand is a constant.
 abbrev pub fold_one : Op1 → Operand → Outcome
 fold_one op (Named x) = Keep
 fold_one op (Constant w n) = if fits w n then Number (value1 op w n) else Keep
@@ -63,7 +63,7 @@ is_second Shl w n = true
 is_second Shr w n = true
 is_second _ w n = fits w n
 
--- An operator on two constants.
+-- What an operator of two operands gives: a number, if both are constants.
 abbrev pub fold_constants : Op2 → Operand → Operand → Outcome
 fold_constants op (Constant w n) (Constant u m) =
     if fits w n && is_second op w m then Number (value2 op w n m) else Keep
@@ -100,32 +100,32 @@ abbrev pub fold_mul : Operand → Operand → Outcome
 fold_mul a b =
     if is_number b 0 || is_number a 1 then Second else if is_number a 0 || is_number b 1 then First else Keep
 
--- `==` of equal operands, and of a bit with a number.
+-- What `==` is, where it is known: of an operand with itself, and of a bit with a constant.
 abbrev pub fold_equal : Operand → Operand → Outcome
 fold_equal a b =
     if same_operand a b then Number 1 else if is_bit b 1 then First else if is_bit a 1 then Second
     else if is_bit b 0 then NotFirst else if is_bit a 0 then NotSecond else Keep
 
--- `!=` of equal operands, and of a bit with a number.
+-- What `!=` is, where it is known: of an operand with itself, and of a bit with a constant.
 abbrev pub fold_unequal : Operand → Operand → Outcome
 fold_unequal a b =
     if same_operand a b then Number 0 else if is_bit b 0 then First else if is_bit a 0 then Second
     else if is_bit b 1 then NotFirst else if is_bit a 1 then NotSecond else Keep
 
--- `<`: nothing is below 0, and nothing above all ones.
+-- What `<` is, where it is known: nothing is below 0, above all ones, or below itself.
 abbrev pub fold_less : Operand → Operand → Outcome
 fold_less a b = if is_number b 0 || is_full a || same_operand a b then Number 0 else Keep
 
--- `<=`.
+-- What `<=` is, where it is known: 0 is at or below all, all ones are at or above all, and each is at or below itself.
 abbrev pub fold_at_most : Operand → Operand → Outcome
 fold_at_most a b = if is_number a 0 || is_full b || same_operand a b then Number 1 else Keep
 
--- A shift of a number of width w.
+-- What a shift of an operand of width w is, where it is known: of 0, by 0, or by w or more.
 abbrev pub fold_shift : (w : ℕ) → Operand → Operand → Outcome
 fold_shift w a (Named y) = if is_number a 0 then First else Keep
 fold_shift w a (Constant u m) = if m == 0 || is_number a 0 then First else if nat_le w m then Number 0 else Keep
 
--- What an operator's result is, where it is known.
+-- The rule of each operator of two operands; `w` is the width of its result.
 abbrev pub fold_operator : (w : ℕ) → Op2 → Operand → Operand → Outcome
 fold_operator w Add a b = fold_add a b
 fold_operator w Sub a b = fold_sub a b
@@ -140,7 +140,7 @@ fold_operator w Le a b = fold_at_most a b
 fold_operator w Shl a b = fold_shift w a b
 fold_operator w Shr a b = fold_shift w a b
 
--- What an operator's result is, where both operands are constants or it is known.
+-- What an operator of two operands gives: a number of two constants, else what its rule says.
 abbrev pub fold_two : (w : ℕ) → Op2 → Operand → Operand → Outcome
 fold_two w op a b = or_else (fold_constants op a b) (fold_operator w op a b)
 
@@ -151,7 +151,7 @@ fold_choose_bit a b =
     if is_number a 1 && is_number b 0 then Condition else if is_number a 0 && is_number b 1 then NotCondition
     else if is_number b 0 then ConditionAndFirst else if is_number a 1 then ConditionOrSecond else Keep
 
--- A choice by a constant, between equal arms, or between bits.
+-- What a choice is, where it is known: by a constant, between equal arms, or between bits. `w` is its width.
 abbrev pub fold_choose : (w : ℕ) → (c a b : Operand) → Outcome
 fold_choose w c a b =
     if is_number c 0 then Second else if is_number c 1 || same_operand a b then First
@@ -183,7 +183,8 @@ of_choose c a b ConditionAndFirst = Two And c a
 of_choose c a b ConditionOrSecond = Two Or c b
 of_choose c a b _ = Choose c a b
 
--- A right side folded, at its width w.
+-- The right side that the table makes of a right side of width w, by its first rule that fits. Slices, cells and
+-- concatenations stay.
 abbrev pub folded : (w : ℕ) → Right → Right
 folded w (One op a) = of_one w op a (fold_one op a)
 folded w (Two op a b) = of_two w op a b (fold_two w op a b)

@@ -8,7 +8,7 @@ use Rattle.sap_share.specs.Differing.{AllDiffer}
 use Rattle.sap_share.specs.Rights.{RightMap, NamesRights}
 use Rattle.sap_fold.specs.Folding.{folded}
 
--- Its right side folds to itself.
+-- The wire's right side folds to itself.
 abbrev pub IsSettled : Wire → Type 0
 IsSettled w = folded w.width w.right ≡ w.right
 

@@ -15,8 +15,8 @@ touches_entity ds None e = false
 touches_entity ds (Some p) None = false
 touches_entity ds (Some p) (Some e) = touches ds p.home p.command e.name.name
 
--- The entity hangs on the point of this number: the command there, whichever branch it takes, can touch it. Point 0 has
--- none.
+-- The command at the point of this number touches the entity. Points are numbered from 1, and entities from 0; on point
+-- 0 nothing hangs.
 abbrev pub hangs : DesignTree → (point entity : ℕ) → Bool
 hangs d zero x = false
 hangs d (suc p) x = touches_entity d.declarations (slice_get (points_of d) p) (slice_get (entities_of d) x)
@@ -44,7 +44,7 @@ abbrev pub bit_of : Option (List Bool) → (place : ℕ) → Bool
 bit_of None x = false
 bit_of (Some row) x = unwrap_or (slice_get row x) false
 
--- What a table says.
+-- In a table the entity hangs on the point of this number; on point 0, and on a point without a row, nothing does.
 abbrev pub says : Table → (point entity : ℕ) → Bool
 says table zero x = false
 says table (suc p) x = bit_of (slice_get table.points p) x
@@ -53,7 +53,7 @@ says table (suc p) x = bit_of (slice_get table.points p) x
 abbrev pub says_of_root : Table → (entity : ℕ) → Bool
 says_of_root table x = unwrap_or (slice_get table.root x) false
 
--- A table of what hangs in a design.
+-- The table says of every point and of the root exactly what hangs there in the design.
 pub record IsHangTable (d : DesignTree) (table : Table) : Type 0 where
   pub points : (p x : ℕ) → says table p x ≡ hangs d p x
   pub root : (x : ℕ) → says_of_root table x ≡ hangs_on_root d x

@@ -26,7 +26,7 @@ Test = List ℕ → Bool
 pub record Stands (es : List Entity) (f : Test) (s : Set) : Type 0 where
   pub stands : (name : List ℕ) (x : ℕ) → number_of es name ≡ Some x → has s x ≡ f name
 
--- Those that pass the test were added.
+-- Of the names of entities, the new set has those of the old one and those that pass the test.
 pub record Adds (es : List Entity) (f : Test) (old new : Set) : Type 0 where
   pub adds : (name : List ℕ) (x : ℕ) → number_of es name ≡ Some x → has new x ≡ (f name || has old x)
 
@@ -34,7 +34,7 @@ pub record Adds (es : List Entity) (f : Test) (old new : Set) : Type 0 where
 abbrev pub firsts_of : List Entity → List ℕ
 firsts_of es = map (λ (e : Entity). entity_number es e.name.name) es
 
--- Rows that were found, the last of the text first.
+-- The table of rows that were found, the last of the text first; the table has them in the order of the text.
 abbrev pub table_of : List Entity → List Set → Rows
 table_of es rows = rows_of (firsts_of es) (reverse rows)
 
@@ -42,7 +42,7 @@ table_of es rows = rows_of (firsts_of es) (reverse rows)
 abbrev pub passing : List Entity → Test → List Bool
 passing es f = map (λ (e : Entity). f e.name.name) es
 
--- What is touched at these commands of one body, and at these points.
+-- For each of these commands of one body, which entities it touches.
 abbrev pub touched_at : List Entity → List Decl → Home → List Command → Rows
 touched_at es ds h cs = map (λ (c : Command). passing es (λ x. tree.touches ds h c x)) cs
 
@@ -66,7 +66,8 @@ declared_in s = s.walk.now.declarations.now
 abbrev pub home_of : Standing → Home
 home_of s = record { name = s.state.now; kind = s.kind.now; children = states_of s.children.now }
 
--- The sets are what they stand for.
+-- The set of the walk has the dynamic registers and memories, and the set of the fall has what a `fall` in this state
+-- touches.
 abbrev pub Sees : Standing → Type 0
 Sees s = Knows s.walk.now × Stands (entities_in s)
     (λ x. fall_touches (declared_in s) (states_of s.children.now) x) s.falls.now

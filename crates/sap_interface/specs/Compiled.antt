@@ -10,7 +10,8 @@ use Rattle.sap_net.specs.Runs.{initial, AllFit, IsRun, observed}
 use Rattle.sap_interface.specs.StandsFor.{Named, world, StandsFor}
 use Rattle.sap_interface.specs.Interface.{HasInterface}
 
--- A module's ports are given each input's number, and the code of its level, in a cycle.
+-- The numbers of a module's input ports in a cycle: for each input of the design its number, then the code of its
+-- level.
 abbrev pub coded : (code : ℕ → ℕ) → List Tagged → List ℕ
 coded code [] = []
 coded code (t ∷ ts) = t.number ∷ code t.level ∷ coded code ts
@@ -23,8 +24,8 @@ coded_stream code stream = map (coded code) stream
 abbrev pub CyclesStand : Named → (sites : ℕ) → List Valuation → List After → Type 0
 CyclesStand d sites = AllZip (λ (v : Valuation) (a : After). StandsFor d sites v a.store a.refused)
 
--- It has the interface; and on every stream that fits the design, its levels given as codes, what is seen of its run
--- in each cycle stands for the same cycle of the labelled run. `tag` is the width of tags.
+-- The netlist has the interface of the design, and takes every stream that fits it, its levels given as codes. Each
+-- cycle of its runs on such a stream stands for the same cycle of the labelled run. `tag` is the width of tags.
 pub record NetStandsFor (d : Named) (tag sites : ℕ) (n : Net) : Type 0 where
   pub interface : HasInterface d tag sites n
   pub takes : (stream : List (List Tagged)) → StreamFits (world d) stream → AllFit n.inputs (coded_stream d.code stream)

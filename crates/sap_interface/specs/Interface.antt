@@ -14,7 +14,7 @@ use Rattle.sap_interface.specs.StandsFor.{Named, name, world, depth}
 use Rattle.sap_net.specs.Names.{IsHelpingName}
 use Rattle.sap_interface.specs.InterfaceNames.{IsInterfaceName}
 
--- A port's name is shown with what it is.
+-- A port is shown by its name and its kind.
 abbrev pub Shown : Type 0
 Shown = Name × PortKind
 
@@ -57,7 +57,7 @@ declared_by n =
       memories = shapes n;
     }
 
--- The width is the least of 1 or more that can hold the number of each of some children.
+-- `u` is the smallest width, 1 or more, that can hold the numbers of `count` children, from 0.
 pub record IsSeatWidth (count u : ℕ) : Type 0 where
   pub positive : 1 ≤ u
   pub holds : count ≤ 2 ^ u

@@ -34,8 +34,8 @@ IsRefusedAt (r ∷ rs) k t = ((r.site ≡ k) × (r.level ≡ t)) ⊎ IsRefusedAt
 abbrev pub IsRefused : List Refusal → (k : ℕ) → Type 0
 IsRefused rs k = (t : ℕ) × IsRefusedAt rs k t
 
--- The numbers are those of a cycle: registers and memories after its edge, wires before it. `sites` is how many check
--- sites the design has.
+-- The numbers `v` of a cycle, of registers and memories after its edge and of wires before it, stand for the state `s`
+-- and the refusals of the cycle. `sites` is how many check sites the design has.
 pub record StandsFor (d : Named) (sites : ℕ) (v : Valuation) (s : Store) (refused : List Refusal) : Type 0 where
   pub register_values : (x : ℕ) → is_register (world d) x ≡ true → v.value (value_name (name d x)) ≡ number (own x) s
   pub register_tags : (x : ℕ) → is_register (world d) x ≡ true

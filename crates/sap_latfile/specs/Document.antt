@@ -8,7 +8,7 @@ abbrev pub key_count : Members → ℕ
 key_count no_members = 0
 key_count (member key value others) = suc (key_count others)
 
--- One item more stands in front, if there is one.
+-- A value in front of a list, if both are there, else nothing.
 abbrev pub then_cons : {A : Type 0} → Option A → Option (List A) → Option (List A)
 then_cons None others = None
 then_cons (Some a) others = option_map (λ as'. a ∷ as') others
@@ -39,7 +39,8 @@ pairs_of = each_of pair_of
 abbrev pub array_at : List ℕ → Members → Option Items
 array_at key members = option_and_then as_array (get_member key members)
 
--- The document has exactly two keys: `levels`, an array of strings, and `below`, an array of arrays of two strings.
+-- The document has exactly two keys: `levels` is an array of strings, the names, and `below` an array of arrays of two
+-- strings, the pairs.
 pub record Lists (document : Members) (names : List (List ℕ)) (pairs : List Pair) : Type 0 where
   pub two_keys : key_count document ≡ 2
   pub levels : option_and_then texts_of (array_at (codes "levels") document) ≡ Some names

@@ -11,7 +11,7 @@ use Rattle.sap_latfile.specs.Document.{Lists}
 use Rattle.sap_latfile.specs.declared.fault.LatFileFault.{LatFileFault}
 use Rattle.sap_latfile.specs.declared.fault.LatFileFault.TheVariants.{NotToml, Shape, Rule, Memory}
 
--- The bytes are this document.
+-- The bytes are UTF-8, and read as TOML they are this document.
 abbrev pub IsDocument : List ℕ → Members → Type 0
 IsDocument bytes document = IsUtf8 bytes × (parse_document bytes ≡ Some document)
 

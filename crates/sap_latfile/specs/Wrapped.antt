@@ -1,4 +1,4 @@
--- A fault of names and pairs as one of a file: want of memory stays want of memory.
+-- A fault of names and pairs as one of a file: out of memory stays out of memory.
 use Rattle.sap_lattice.specs.declared.fault.LatFault.{LatFault}
 use Rattle.sap_lattice.specs.declared.fault.LatFault.TheVariants as rule
 use Rattle.sap_latfile.specs.declared.fault.LatFileFault.{LatFileFault}

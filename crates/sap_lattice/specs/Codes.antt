@@ -4,7 +4,7 @@ use Rattle.std.specs.List.{list_any}
 use Rattle.sap_lattice.specs.Order.{Order}
 use Rattle.sap_lattice.specs.Levels.{numbers}
 
--- `x` is below y and another level.
+-- `x` is at or below y, and is not y itself.
 abbrev pub is_strictly_below : Order → ℕ → ℕ → Bool
 is_strictly_below o x y = o.le x y && not (x == y)
 
@@ -18,7 +18,7 @@ is_upper_cover o x y =
 abbrev pub is_meet_irreducible : Order → ℕ → Bool
 is_meet_irreducible o x = not (x == o.top) && (length (filter (is_upper_cover o x) (numbers o.count)) == 1)
 
--- The meet-irreducible levels stand in the file's order.
+-- The meet-irreducible levels, in the file's order.
 unfoldable pub meet_irreducibles : Order → List ℕ
 meet_irreducibles o = filter (is_meet_irreducible o) (numbers o.count)
 
@@ -35,7 +35,7 @@ number_of (b ∷ bs) = (if b then 1 else 0) + 2 * number_of bs
 abbrev pub is_in_code : Order → ℕ → ℕ → Bool
 is_in_code o x m = not (o.le x m)
 
--- The code is a number: bit `i` is set where the `i`-th meet-irreducible level is in the set.
+-- The code of x as a number: bit i, from 0, is set if the i-th meet-irreducible level is in the code.
 unfoldable pub code_of : Order → ℕ → ℕ
 code_of o x = number_of (map (is_in_code o x) (meet_irreducibles o))
 

@@ -25,19 +25,19 @@ every n test = list_all test (numbers n)
 abbrev pub first : ℕ → (ℕ → Bool) → ℕ
 first n test = unwrap_or (find test (numbers n)) 0
 
--- `u` is above both x and y.
+-- `u` is at or above both x and y.
 abbrev pub is_upper_bound : (ℕ → ℕ → Bool) → ℕ → ℕ → ℕ → Bool
 is_upper_bound le x y u = le x u && le y u
 
--- `j` is above both x and y, and below everything that is above both.
+-- `j` is the least upper bound of x and y: at or above both, and at or below each upper bound of both.
 abbrev pub is_join : ℕ → (ℕ → ℕ → Bool) → ℕ → ℕ → ℕ → Bool
 is_join n le x y j = is_upper_bound le x y j && every n (λ u. not (is_upper_bound le x y u) || le j u)
 
--- `b` is below every level.
+-- `b` is at or below every level.
 abbrev pub is_least : ℕ → (ℕ → ℕ → Bool) → ℕ → Bool
 is_least n le b = every n (λ x. le b x)
 
--- `t` is above every level.
+-- `t` is at or above every level.
 abbrev pub is_greatest : ℕ → (ℕ → ℕ → Bool) → ℕ → Bool
 is_greatest n le t = every n (λ x. le x t)
 
@@ -51,7 +51,7 @@ order_by n le = record {
   top = first n (is_greatest n le);
 }
 
--- `a` number that is no level counts as level 0.
+-- A number that is no level counts as level 0.
 abbrev pub level_in : ℕ → ℕ → ℕ
 level_in n x = if nat_lt x n then x else 0
 

@@ -1,7 +1,7 @@
 -- The order of levels as the labelled meaning sees it. A level is a number: its place in the lattice file, from 0.
 use Rattle.std.specs.Prelude.{◌≡◌, ◌<◌, ℕ, Bool, true}
 
--- How many levels there are, which is at or below which, the join of two, and the bottom.
+-- How many levels there are, which is at or below which, the join of two, the bottom and the top.
 pub record Order : Type 0 where
   pub count : ℕ
   pub le : ℕ → ℕ → Bool

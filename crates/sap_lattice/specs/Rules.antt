@@ -10,7 +10,7 @@ use Rattle.sap_lattice.specs.Closure.{Below, IsLevel, IsJoin, IsLeast, name_at}
 abbrev pub BadCount : List (List ℕ) → Type 0
 BadCount names = (length names < 2) ⊎ (64 < length names)
 
--- A word is no name for the level at place `k` for one of these reasons.
+-- The name at place `k` is no word, a keyword, longer than 40 bytes, or that of an earlier level.
 pub data BadName (names : List (List ℕ)) (k : ℕ) : Type 0 where
   no_word : is_word (name_at names k) ≡ false → BadName names k
   keyword : is_among (name_at names k) design_keywords ≡ true → BadName names k
@@ -43,32 +43,32 @@ pub record HasNoJoin (names : List (List ℕ)) (pairs : List Pair) (x y : ℕ) :
 abbrev pub HasNoLeast : List (List ℕ) → List Pair → Type 0
 HasNoLeast names pairs = (b : ℕ) → ¬ IsLeast names pairs b
 
--- None of the rules up to the one that is named is broken.
+-- L3 is kept: there are 2 to 64 levels.
 pub record KeepsCount (names : List (List ℕ)) : Type 0 where
   pub at_least_two : 2 ≤ length names
   pub not_too_many : length names ≤ 64
 
--- The number of names is one that a lattice may have, and each name is one.
+-- L3 and L4 are kept: the rule of `before`, and no level has a bad name.
 pub record KeepsNames (names : List (List ℕ)) : Type 0 where
   pub before : KeepsCount names
   pub named : (k : ℕ) → ¬ BadLevel names k
 
--- The rules so far hold, and each pair has known levels.
+-- L3 to L5 are kept: the rules of `before`, and both names of each pair are levels.
 pub record KeepsPairs (names : List (List ℕ)) (pairs : List Pair) : Type 0 where
   pub before : KeepsNames names
   pub known : (k : ℕ) → ¬ BadPair names pairs k
 
--- The rules so far hold, and no two levels are below each other.
+-- L3 to L6 are kept: the rules of `before`, and no two levels are each at or below the other.
 pub record KeepsApart (names : List (List ℕ)) (pairs : List Pair) : Type 0 where
   pub before : KeepsPairs names pairs
   pub no_cycle : (x y : ℕ) → ¬ IsCycle names pairs x y
 
--- The rules so far hold, and each two levels have a join.
+-- L3 to L7 are kept: the rules of `before`, and any two levels have a least upper bound.
 pub record KeepsJoins (names : List (List ℕ)) (pairs : List Pair) : Type 0 where
   pub before : KeepsApart names pairs
   pub joined : (x y : ℕ) → ¬ HasNoJoin names pairs x y
 
--- All rules hold: those so far, and there is a bottom.
+-- L3 to L8 are kept: the rules of `before`, and there is a least level.
 pub record KeepsAll (names : List (List ℕ)) (pairs : List Pair) : Type 0 where
   pub before : KeepsJoins names pairs
   pub least : ¬ HasNoLeast names pairs
@@ -83,7 +83,7 @@ pub record IsFirstPair (P : ℕ → ℕ → Type 0) (x y : ℕ) : Type 0 where
   pub here : P x y
   pub none_before : (u v : ℕ) → (u < x) ⊎ ((u ≡ x) × (v < y)) → ¬ P u v
 
--- `a` and b are the names of the first two such levels.
+-- `a` and b are the names of the first two levels of which P is true.
 pub record AreNamesOfFirst (names : List (List ℕ)) (P : ℕ → ℕ → Type 0) (a b : List ℕ) : Type 0 where
   pub left : ℕ
   pub right : ℕ

@@ -27,11 +27,11 @@ name_at bytes = let name = take (run c.Inner bytes) bytes in word_or_name (word_
 
 -- numbers
 
--- These bytes may not follow a number.
+-- A letter, a digit, `_` or `'` may not follow a number directly.
 abbrev pub clings : ℕ → Bool
 clings b = is_inner b || b == byte "'"
 
--- A number's token, unless it is too large or a letter or digit clings to it.
+-- A number's token, unless it is too large or something clings to it.
 abbrev pub number_lexeme : Option ℕ → Bool → ℕ → Lexeme
 number_lexeme (Some n) false len = Token (k.Number n) len
 number_lexeme (Some n) true len = Bad
@@ -44,7 +44,8 @@ sized_lexeme (Some width) (Some n) true len = Bad
 sized_lexeme (Some width) None clinging len = Bad
 sized_lexeme None n clinging len = Bad
 
--- A sized number is a width of `width` digits, `'`, a letter, and digits of a base.
+-- The sized number at the front of a text: `width` decimal digits, two more bytes, and then one or more digits of the
+-- class.
 unfoldable pub sized_in : Class → (base : ℕ) → (width : ℕ) → List ℕ → Lexeme
 sized_in class base width bytes =
     let digits = run class (drop (width + 2) bytes) in
@@ -52,7 +53,8 @@ sized_in class base width bytes =
     else sized_lexeme (number_of 10 (take width bytes)) (number_of base (take digits (drop (width + 2) bytes)))
     (clings (slice_index bytes (width + 2 + digits))) (width + 2 + digits)
 
--- The sized number at the front of a text, after the digits of its width.
+-- The sized number at the front of a text whose width has `width` digits: decimal if a `d` is after the `'`,
+-- hexadecimal if an `h` is.
 unfoldable pub sized_at : (width : ℕ) → List ℕ → Lexeme
 sized_at width bytes =
     if slice_index bytes (width + 1) == byte "d" then sized_in c.Decimal 10 width bytes
@@ -68,7 +70,7 @@ number_at bytes =
 
 -- signs of two bytes, or of one
 
--- The token of a sign if there is one, else another.
+-- The token of a sign if there is one, else the other lexeme.
 abbrev pub sign_or : Option Sign → ℕ → Lexeme → Lexeme
 sign_or (Some sign) len other = Token (k.Sign sign) len
 sign_or None len other = other

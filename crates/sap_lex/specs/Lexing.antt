@@ -26,21 +26,21 @@ use Rattle.sap_lex.specs.declared.token.Token.{Token}
 abbrev pub IsBlankAt : List ℕ → ℕ → ℕ → Type 0
 IsBlankAt text n len = lexeme_of (drop n text) ≡ l.Blank len
 
--- This token is at a place of a text, with its length.
+-- The token stands at byte `n` of a text and has `len` bytes.
 pub record StandsAt (text : List ℕ) (n : ℕ) (token : Token) (len : ℕ) : Type 0 where
   pub lexeme : lexeme_of (drop n text) ≡ l.Token token.kind len
   pub place : token.place ≡ place_at text n
   pub from : token.from ≡ n
   pub to : token.to ≡ n + len
 
--- The first `n` bytes of a text are these tokens, with blanks between them.
+-- The bytes of a text up to a place are these tokens, with blanks before, between and after them.
 abbrev pub Reached : List ℕ → ℕ → List Token → Type 0
 Reached text = walk.Reached (IsBlankAt text) (StandsAt text)
 
 -- Where the first token of a text is the name `sapper`, it is a word, and so is a second one that is the number 2,
 -- spelled by one digit. Behind them the keywords of the second version are words.
 
--- The first token of a design of version 2 is the name `sapper`.
+-- A token is the name `sapper`.
 abbrev pub is_sapper : Kind → Bool
 is_sapper (k.Name name) = bytes_eq name (word_text w.Sapper)
 is_sapper kind = false
@@ -54,7 +54,7 @@ is_number_two kind = false
 abbrev pub is_two : Token → Bool
 is_two t = is_number_two t.kind && t.to == t.from + 1
 
--- A token is a keyword if there is one, else what it was.
+-- The kind of the keyword if there is one, else the kind that it was.
 abbrev pub kind_by : Option Word → Kind → Kind
 kind_by None kind = kind
 kind_by (Some word) kind = k.Word word
@@ -76,7 +76,7 @@ with_kind t kind = record t { kind = kind }
 abbrev pub later_token : Token → Token
 later_token t = with_kind t (later_kind t.kind)
 
--- The second token of a design of version 2.
+-- The token after `sapper`: the word `2` if it is this digit alone, else as version 2 takes it.
 abbrev pub second_token : Token → Token
 second_token t = if is_two t then with_kind t (k.Word w.Two) else later_token t
 

@@ -8,7 +8,7 @@ use Rattle.sap_tree.specs.Words.{word_text, first_words, later_words}
 use Rattle.sap_tree.specs.declared.word.Word.TheVariants as w
 use Rattle.sap_tree.specs.declared.word.Word.{Word}
 
--- Signs are spelled so.
+-- The bytes by which a sign is spelled.
 abbrev pub sign_text : Sign → List ℕ
 sign_text s.Becomes = codes ":="
 sign_text s.Equal = codes "=="
@@ -36,7 +36,7 @@ sign_text s.Bar = codes "|"
 sign_text s.Caret = codes "^"
 sign_text s.Tilde = codes "~"
 
--- Some signs have two bytes, others one.
+-- The signs of two bytes.
 abbrev pub pair_signs : List Sign
 pair_signs = s.Becomes ∷ s.Equal ∷ s.NotEqual ∷ s.LessOrEqual ∷ s.ShiftLeft ∷ s.ShiftRight ∷ []
 
@@ -50,15 +50,15 @@ single_signs = s.OpenParen ∷ s.CloseParen ∷ s.OpenBrace ∷ s.CloseBrace ∷
 abbrev pub signs : List Sign
 signs = pair_signs ++ single_signs
 
--- `sign_among` is the one of some signs that is spelled so.
+-- The sign of a list that a text spells, if it spells one.
 abbrev pub sign_among : List Sign → List ℕ → Option Sign
 sign_among list text = find (λ sign. bytes_eq text (sign_text sign)) list
 
--- `sign_of` is the sign that is spelled so.
+-- The sign that a text spells, if it spells one.
 abbrev pub sign_of : List ℕ → Option Sign
 sign_of text = sign_among signs text
 
--- The sign that two bytes spell, and the one that a single byte does.
+-- The sign that two bytes spell, if they spell one.
 unfoldable pub pair_sign : ℕ → ℕ → Option Sign
 pair_sign first second = sign_among pair_signs (first ∷ second ∷ [])
 
@@ -66,15 +66,15 @@ pair_sign first second = sign_among pair_signs (first ∷ second ∷ [])
 unfoldable pub single_sign : ℕ → Option Sign
 single_sign byte = sign_among single_signs (byte ∷ [])
 
--- `word_among` is the one of some words that is spelled so.
+-- The word of a list that a text spells, if it spells one.
 abbrev pub word_among : List Word → List ℕ → Option Word
 word_among list text = find (λ word. bytes_eq text (word_text word)) list
 
--- `word_of` is the word that is spelled so.
+-- The keyword of version 1 that a text spells, if it spells one.
 abbrev pub word_of : List ℕ → Option Word
 word_of text = word_among first_words text
 
--- The same words by where they stand: in declarations, in commands, and in expressions, of values or of tags.
+-- The keywords of declarations, states and kinds.
 abbrev pub declaration_words : List Word
 declaration_words = w.Input ∷ w.Reg ∷ w.Mem ∷ w.State ∷ w.Dynamic ∷ w.Enforced ∷ w.Under ∷ []
 
@@ -86,7 +86,7 @@ command_words = w.If ∷ w.Else ∷ w.Goto ∷ w.Fall ∷ w.SetTag ∷ w.Otherwi
 abbrev pub expression_words : List Word
 expression_words = w.Tag ∷ w.Level ∷ w.Join ∷ w.Zext ∷ []
 
--- The word of each of these kinds that is spelled so.
+-- The keyword of declarations that a text is, if it is one.
 unfoldable pub declaration_word : List ℕ → Option Word
 declaration_word text = word_among declaration_words text
 
@@ -98,6 +98,6 @@ command_word text = word_among command_words text
 unfoldable pub expression_word : List ℕ → Option Word
 expression_word text = word_among expression_words text
 
--- `later_word_of` is the word that is one from the second version on.
+-- The keyword of version 2 alone that a text spells, if it spells one.
 abbrev pub later_word_of : List ℕ → Option Word
 later_word_of text = word_among later_words text

@@ -2,7 +2,7 @@
 
 use std::fmt;
 
-/// A limit, in the order in which they are answered at one token.
+/// A limit on the text of a design. If a token breaks several, the first in this order is answered.
 #[derive(Clone, Copy, PartialEq, Eq, Debug)]
 pub enum Limit {
     Bytes,

@@ -7,7 +7,7 @@ use sap_tree::place::Place;
 use sap_tree::word::Word;
 use std::marker::Model;
 
-/// A sign.
+/// A sign of the design language.
 #[derive(Clone, Copy, PartialEq, Eq, Debug)]
 pub enum Sign {
     /// `:=`
@@ -62,7 +62,7 @@ pub enum Sign {
     Tilde,
 }
 
-/// What a token is.
+/// What a token is: a keyword, a sign, a name, or a number without or with a width.
 #[derive(Drop)]
 pub enum Kind {
     Word(Word),

@@ -42,24 +42,25 @@ count_after End count = count
 count_after (Fault fault) count = count
 count_after Failed count = count
 
--- What an answer tells of the lines that were to come: the cycles of the first of them, before those that are to come
--- then; that there was none; that the first was refused, and why.
+-- What an answer says of the lines that were to come. A line: the first of them gives its cycles, and the others are
+-- still to come. The end: there was none. A fault: the first was refused, and why.
 abbrev pub Tells : Next → (before : Parsed) → (line : Span) → (after : Parsed) → Type 0
 Tells Line before line after = before ≡ ahead line after
 Tells End before line after = before ≡ finished
 Tells (Fault fault) before line after = before ≡ record { stream = []; fault = Some fault }
 Tells Failed before line after = Unit {0}
 
--- It tells this by these bytes: they were to come, and behind them anything where it is a line, else nothing.
+-- The answer is right for a channel on which these bytes come next. If it is a line, anything may follow them, else
+-- nothing follows them.
 abbrev pub TellsBy : Levels → Next → (was now : Reader) → (more : List ℕ) → Type 0
 TellsBy ls next was now more = (rest : List ℕ) → IsTrue (is_line next) ⊎ (rest ≡ [])
     → Tells next (to_come ls was (more ++ rest)) now.line (to_come ls now rest)
 
--- On every desk it tells this by some bytes.
+-- On every desk, there are bytes for which the answer is right.
 abbrev pub TellsSome : Levels → Next → (was now : Reader) → Type 0
 TellsSome ls next was now = (more : List ℕ) × TellsBy ls next was now more
 
--- These bytes begin with a line, and its LF is among them: this is what it gives, and these bytes stand behind the LF.
+-- These bytes begin with a line and its LF; `line` is what the line gives, and `left` are the bytes after the LF.
 pub record BeginsWith (ls : Levels) (fs : List Field) (bytes : List ℕ) (line : Span) (left : List ℕ) : Type 0 where
   pub ended : list_any (λ b. b == 10) bytes ≡ true
   pub gives : line_of ls fs true (before_first (λ b. b == 10) bytes) ≡ Ok line
@@ -70,7 +71,7 @@ pub record BeginsWith (ls : Levels) (fs : List Field) (bytes : List ℕ) (line :
 abbrev pub TakesLine : Levels → (was now : Reader) → (more : List ℕ) → Type 0
 TakesLine ls was now more = BeginsWith ls was.fields (was.pending ++ more) now.line now.pending
 
--- On every desk it is taken of the pending bytes and of so many more.
+-- On every desk, a line is taken of the pending bytes and of `count` bytes after them.
 abbrev pub TakesSome : Levels → (was now : Reader) → (count : ℕ) → Type 0
 TakesSome ls was now count = (more : List ℕ) × (length more ≡ count) × TakesLine ls was now more
 
@@ -88,8 +89,8 @@ blamed_by End channel name t = t
 blamed_by (Fault fault) channel name t = t
 blamed_by Failed channel name t = blame_at channel name t
 
--- So many bytes more were read of a channel, and nothing else changed but the blame. A piece was asked for only where
--- all lines that end in the bytes read before it were taken.
+-- `count` bytes more were read of a channel, and nothing else changed but the blame. The last piece, if there was one,
+-- was asked for after `asked` of these bytes, since the pending bytes and those didn't decide the next line.
 pub record ReadOn (next : Next) (channel : ℕ) (pending : List ℕ) (told_was told_now : Option Told)
     (given_was given_now : ℕ → ℕ) : Type 0 where
   pub asked : Option ℕ

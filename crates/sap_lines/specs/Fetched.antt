@@ -10,28 +10,29 @@ pub record EndsAt (start ended : ℕ) (bytes : List ℕ) : Type 0 where
   pub none : (k : ℕ) → ended ≤ k → k < length bytes → slice_index_or bytes k 0 ≢ 10
   pub last : start < ended → slice_index_or bytes (ended - 1) 0 ≡ 10
 
--- The next line is told by the first bytes of what is to come: it ends in them, or is too long.
+-- These bytes decide the next line: it ends among them, or is too long.
 abbrev pub IsDecided : List ℕ → Type 0
 IsDecided bytes = (65536 < length bytes) ⊎ (list_any (λ b. b == 10) bytes ≡ true)
 
--- Or none come behind them.
+-- These bytes decide the next line, or the channel has none left after them.
 abbrev pub EndsOrDecided : (channel : ℕ) → List ℕ → Told → Type 0
 EndsOrDecided channel bytes t = IsDecided bytes ⊎ (rest_of t channel ≡ [])
 
--- Where the last piece was asked for, behind the bytes that were held: these and so many more didn't tell the line, and
--- all others are of that piece. Where none was asked for, nothing more is held.
+-- No more was read than needed: the bytes held before the last piece didn't decide the line, and that piece has all the
+-- others. If no piece was asked for, nothing more is held.
 abbrev pub HoldsLeast : (held now : List ℕ) → (asked : Option ℕ) → Type 0
 HoldsLeast held now None = now ≡ held
 HoldsLeast held now (Some few) = (length held + few ≤ length now)
     × (length now ≤ length held + few + 4096) × (¬ IsDecided (take (length held + few) now))
 
--- The same of what is read of a channel behind the bytes that are pending.
+-- No more was read of a channel than needed: the pending bytes and those read before the last piece didn't decide the
+-- line. If no piece was asked for, no byte was read.
 abbrev pub ReadsLeast : (channel : ℕ) → (pending : List ℕ) → (asked : Option ℕ) → (count : ℕ) → Told → Type 0
 ReadsLeast channel pending None count t = count ≡ 0
 ReadsLeast channel pending (Some few) count t = IsReadTo None (rest_of t channel) few count
     × (¬ IsDecided (pending ++ take few (rest_of t channel)))
 
--- So many bytes more were read of a channel, behind those that were held, and nothing else changed.
+-- `count` bytes more were read of a channel and are held after those held before, and nothing else changed.
 pub record More (channel : ℕ) (held now : List ℕ) (told_was told_now : Option Told)
     (given_was given_now : ℕ → ℕ) : Type 0 where
   pub asked : Option ℕ

@@ -43,14 +43,14 @@ Ends = (ls : Levels) (fs : List Field) (bytes : List ℕ) (lines : List Span) (r
     → Follows ls fs bytes lines r rest → Tells End (to_come ls r rest) line after
     → stimulus_of ls fs bytes ≡ parsed_as (cycles_of lines) None
 
--- At a fault they are all that it gives, and the fault is its fault.
+-- At a fault the cycles of the lines are all that the file gives, and the fault is the file's.
 abbrev pub Stops : Type 0
 Stops = (ls : Levels) (fs : List Field) (bytes : List ℕ) (lines : List Span) (r : Reader)
     (rest : List ℕ) (line : Span) (after : Parsed) (fault : StimFault)
     → Follows ls fs bytes lines r rest → Tells (Fault fault) (to_come ls r rest) line after
     → stimulus_of ls fs bytes ≡ parsed_as (cycles_of lines) (Some fault)
 
--- The same on every desk: there are bytes of which a reader gave these lines, whatever comes behind them.
+-- On every desk, there are bytes of which a reader gave these lines, whatever comes after them.
 abbrev pub FollowsSome : Levels → List Field → (lines : List Span) → Reader → Type 0
 FollowsSome ls fs lines r = (bytes : List ℕ) × ((rest : List ℕ) → Follows ls fs (bytes ++ rest) lines r rest)
 

@@ -1,5 +1,5 @@
 -- What a right side folds to has its value, where its operands are within their widths.
-use Rattle.sap_lemmas.proofs.Common.{◌≡◌, ℕ, ◌^◌, ◌<◌, List, [], ◌∷◌, ◌++◌, Option, Some, None, sym, ap, ◌∙◌, subst, refl, inl, inr, append_assoc, bytes_eq, bytes_eq_same, equal_of_bytes_eq, cases_Bool, AllByRecursion, all_append}
+use Rattle.sap_lemmas.proofs.Common.{◌≡◌, ℕ, ◌^◌, ◌<◌, [], ◌∷◌, ◌++◌, Some, sym, ap, ◌∙◌, subst, refl, inl, inr, append_assoc, bytes_eq, bytes_eq_same, equal_of_bytes_eq, cases_Bool, AllByRecursion, all_append}
 use Rattle.sap_bits.specs.Arithmetic.{width1, width2}
 use Rattle.sap_bits.specs.declared.Op1.{Op1}
 use Rattle.sap_bits.specs.declared.Op2.{Op2}

@@ -1,11 +1,10 @@
 -- The names that commands assign, and what stands at first for a register that none of them assigns.
-use Rattle.sap_lemmas.proofs.Common.{◌≡◌, ◌||◌, ℕ, suc, ◌+◌, ◌<◌, List, [], ◌∷◌, ◌++◌, Option, Some, None, Bool, true, false, append_assoc, AllByRecursion, length, drop, get_or, map, sym, ap, ap₂, ◌∙◌, subst, refl, inl, inr, unwrap_or, bytes_eq, bytes_eq_symmetric, cases_Bool, add-one, drop-cons, if◌then◌else◌}
+use Rattle.sap_lemmas.proofs.Common.{◌≡◌, ◌||◌, ℕ, suc, ◌+◌, ◌<◌, List, [], ◌∷◌, ◌++◌, Option, Some, None, Bool, true, false, append_assoc, AllByRecursion, length, drop, get_or, map, sym, ap, ap₂, ◌∙◌, refl, inl, inr, unwrap_or, bytes_eq, bytes_eq_symmetric, cases_Bool, add-one, drop-cons, if◌then◌else◌}
 use Rattle.sap_maps.specs.Prelude.{Name, find, Term}
 use Rattle.sap_net.specs.Names.{is_among}
 use Rattle.sap_net.specs.Rules.{Shapes}
-use Rattle.sap_net.specs.declared.parts.Operand.{Operand}
 use Rattle.sap_net.specs.declared.parts.Operand.TheVariants.{Named, Constant}
-use Rattle.sap_ir.specs.Calcs.{action_of, command_of, commands_of}
+use Rattle.sap_ir.specs.Calcs.{action_of, commands_of}
 use Rattle.sap_ir.specs.Source.{Action, set, put, Command, Source, shapes}
 use Rattle.sap_ir.specs.IsGuarded.{IsGuarded, variable_names, memory_names}
 use Rattle.sap_ir.proofs.Declared.{apart_lists, distinct_behind, distinct_front}

@@ -1,7 +1,7 @@
 -- Names, and maps from names to numbers.
 use Rattle.std.specs.Prelude.{ℕ, List, bytes_eq, if◌then◌else◌}
 
--- `a` name is its bytes.
+-- A name is the list of its bytes.
 abbrev pub Name : Type 0
 Name = List ℕ
 

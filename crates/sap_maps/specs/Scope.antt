@@ -1,8 +1,8 @@
--- Declared names, each with what was declared of it. The newest declaration of a name counts.
+-- Lists of names, each with what was declared of it. The first entry of a name counts.
 use Rattle.std.specs.Prelude.{◌≡◌, ℕ, List, [], ◌∷◌, Option, Some, None, bytes_eq, if◌then◌else◌}
 use Rattle.sap_maps.specs.Maps.{Name, Valuation}
 
--- `find` is what was declared of a name first.
+-- What the first entry of a name in the list says of it, if there is one.
 abbrev pub find : {X : Type 0} → List (Name × X) → Name → Option X
 find [] n = None
 find (e ∷ es) n = if bytes_eq e.0 n then Some e.1 else find es n

@@ -21,7 +21,7 @@ pub data Term (N : Type 0) : Type 0 where
   -- the bits from lo up to hi
   part : Term N → (hi lo : ℕ) → Term N
 
--- `widths` has the width of a name, and of a memory's cells.
+-- The width of an expression, where `widths` has that of each name and of each memory's cells.
 abbrev pub term_width : {N : Type 0} → (widths : N → ℕ) → Term N → ℕ
 term_width widths (constant w x) = w
 term_width widths (read n) = widths n
@@ -32,7 +32,7 @@ term_width widths (choose c a b) = term_width widths a
 term_width widths (join a b) = term_width widths a + term_width widths b
 term_width widths (part a hi lo) = hi + 1 - lo
 
--- The value of an expression.
+-- The value of an expression, where `value` has that of each name and `cells` that of each memory's cells.
 abbrev pub term_value : {N : Type 0} → (widths : N → ℕ) → (value : N → ℕ) → (cells : N → ℕ → ℕ) → Term N → ℕ
 term_value widths value cells (constant w x) = x
 term_value widths value cells (read n) = value n

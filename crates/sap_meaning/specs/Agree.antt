@@ -6,12 +6,12 @@ use Rattle.sap_meaning.specs.Program.{World, Program, is_dynamic, is_register, i
 use Rattle.sap_meaning.specs.Store.{Store, Slot, own, start, next, start_whole, next_whole, owner, held, number, level, child, Refusal, After}
 use Rattle.sap_meaning.specs.Cycle.{Tagged}
 
--- A relation of two contents, by what it says that they are the same, and by their tags t and u.
+-- A relation of two contents with tags: it takes the statement that the contents are the same, and the tags t and u.
 abbrev pub Relation : Type 1
 Relation = (Same : Type 0) → (t u : ℕ) → Type 0
 
--- They look alike to one to whom some tags are low and others are high: they are the same, with equal tags, a low
--- one; or both tags are high.
+-- Two contents look alike: they are the same and have equal, low tags; or both tags are high. Which tags are low and
+-- which are high is given.
 abbrev pub AlikeBy : (low high : ℕ → Type 0) → Relation
 AlikeBy low high Same t u = (Same × (t ≡ u) × low t) ⊎ (high t × high u)
 
@@ -27,7 +27,7 @@ High o l t = o.le t l ≡ false
 abbrev pub Alike : Order → (l : ℕ) → Relation
 Alike o l = AlikeBy (Low o l) (High o l)
 
--- One slot looks alike, its content being its number.
+-- A slot looks alike at `l` in two stores: its content is its number.
 abbrev pub SlotsAlike : World → ℕ → Slot → Store → Store → Type 0
 SlotsAlike w l z s t = Alike w.order l (number z s ≡ number z t) (level w z s) (level w z t)
 
@@ -54,8 +54,8 @@ path_from child tag (and_node a g) (suc n) = path_from child tag g n
 abbrev pub active_path : Program → Store → List ActiveState
 active_path p s = path_from (λ x. child x s) (λ x. level p.world (own x) s) p.states (child (root p.world) s)
 
--- Two active paths are related: both have ended; or their first states are, by their tags, where to be the same means
--- that it is one state and that the paths below are related.
+-- Two active paths are related. Both are empty; or `R` relates their first states by their tags, where to be the same
+-- means to be one state with related paths below it.
 abbrev pub PathsRelated : Relation → List ActiveState → List ActiveState → Type 0
 PathsRelated R [] [] = Unit {0}
 PathsRelated R [] (y ∷ ys) = ⊥
@@ -71,7 +71,7 @@ pub record StatesAgree (p : Program) (l : ℕ) (s t : Store) : Type 0 where
       → SlotsAlike p.world l (start m i) s t × SlotsAlike p.world l (next m i) s t
   pub dynamic_memories : (m : ℕ) → is_memory p.world m ≡ true → is_dynamic p.world m ≡ true
       → PartsAlike p.world l (start m) (start_whole m) s t × PartsAlike p.world l (next m) (next_whole m) s t
-  -- of registers, cells and states, whether active or not
+  -- Registers, cells and states whose authority is at or below l have equal levels, whether active or not.
   pub enforced_levels : (z : Slot) → held p.world z ≡ true → is_dynamic p.world (owner z) ≡ false
       → Low p.world.order l (authority p.world (owner z))
       → level p.world z s ≡ level p.world z t
@@ -81,19 +81,19 @@ pub record StatesAgree (p : Program) (l : ℕ) (s t : Store) : Type 0 where
 abbrev pub seen : Order → ℕ → List Refusal → List Refusal
 seen o l rs = filter (λ r. o.le r.level l) rs
 
--- The refusals of two runs agree at a level: those that it sees are the same.
+-- The refusals of two cycles agree at `l`: those whose level is at or below `l` are the same, in the same order.
 abbrev pub RefusalsAgree : Order → ℕ → List Refusal → List Refusal → Type 0
 RefusalsAgree o l rs qs = seen o l rs ≡ seen o l qs
 
--- There are as many inputs, and each looks alike.
+-- The inputs of two cycles agree at `l`: they are equally many, and each looks alike.
 abbrev pub InputsAgree : Order → ℕ → List Tagged → List Tagged → Type 0
 InputsAgree o l inputs others = AllZip (λ a b. Alike o l (a.number ≡ b.number) a.level b.level) inputs others
 
--- There are as many cycles, and in each the inputs agree.
+-- Two streams agree at `l`: they have equally many cycles, and in each the inputs agree.
 abbrev pub StreamsAgree : Order → ℕ → List (List Tagged) → List (List Tagged) → Type 0
 StreamsAgree o l stream other = AllZip (InputsAgree o l) stream other
 
--- As many cycles, and in each the states and the refusals agree.
+-- Two runs agree at `l`: they have equally many cycles, and in each the states and the refusals agree.
 abbrev pub RunsAgree : Program → ℕ → List After → List After → Type 0
 RunsAgree p l run other = AllZip (λ a b. StatesAgree p l a.store b.store
     × RefusalsAgree p.world.order l a.refused b.refused) run other

@@ -4,13 +4,14 @@ use Rattle.sap_meaning.specs.Program.{World, is_dynamic, authority, Step, assign
 use Rattle.sap_meaning.specs.Store.{Store, own, start, level, child}
 use Rattle.sap_meaning.specs.Expressions.{value, tag, new_level, told}
 
--- A command stands in the body of a state, which has a parent and children.
+-- Where a command is: in the body of `state`, whose parent is `parent`, the root for a top-level state, and whose
+-- children are `children`.
 pub record Home : Type 0 where
   pub state : ℕ
   pub parent : ℕ
   pub children : Group
 
--- The number of the check site that a step is.
+-- The number of the check site that a step is, 0 if it is none.
 abbrev pub site_of : Step → ℕ
 site_of (assign site x e) = site
 site_of (write site m i e) = site
@@ -19,7 +20,7 @@ site_of (retag_cell site m j n) = site
 site_of (go_to site target) = site
 site_of (fall_to_child site hang) = site
 
--- Entering a state tells at least its authority, and the bottom if it is dynamic.
+-- The guard of a `goto` to a state: its authority if it is enforced, else the bottom.
 abbrev pub entry : World → ℕ → ℕ
 entry w x = if is_dynamic w x then w.order.bottom else authority w x
 
@@ -39,8 +40,9 @@ child_opens w no_node n pc s = true
 child_opens w (and_node (state_node c b k) g) zero pc s = opens w c pc s
 child_opens w (and_node t g) (suc n) pc s = child_opens w g n pc s
 
--- The level at which a refusal of a step is seen: the tag that the step would overwrite, or the authority that it would
--- need.
+-- The guard of a step; a refusal is recorded at its join with the context. If the target is enforced, an assignment has
+-- its tag, a write the join of the index's tag and the cell's, and a `goto` the authority of the state; else they have
+-- the bottom. A `setTag` has the authority of its entity, and a `fall` the level of the current child.
 abbrev pub guard : World → Home → Step → Store → ℕ
 guard w at (assign site x e) s = if is_dynamic w x then w.order.bottom else level w (own x) s
 guard w at (write site m i e) s = if is_dynamic w m then w.order.bottom
@@ -50,7 +52,11 @@ guard w at (retag_cell site m j n) s = authority w m
 guard w at (go_to site target) s = entry w target
 guard w at (fall_to_child site hang) s = child_level w at.children (child at.state s) s
 
--- A step is accepted: the tags of all that it depends on are at or below its guard, or its target is dynamic.
+-- The step succeeds in the context `pc`. An assignment or a write does so if its target is dynamic, or if `pc` and the
+-- tags of all that it reads are at or below the target's tag. A `setTag` does so if `pc`, what the new level tells and
+-- the tag of an index are at or below the authority, and the authority is at or below the new level. A `goto` does so
+-- if `pc` is at or below the level of an enforced target, and its join with the guard at or below the level of an
+-- enforced source. A `fall` does so if `pc` is at or below the level of an enforced child.
 abbrev pub test : World → Home → Step → ℕ → Store → Bool
 test w at (assign site x e) pc s = is_dynamic w x || w.order.le (w.order.join pc (tag w e s)) (level w (own x) s)
 test w at (write site m i e) pc s =

@@ -6,7 +6,7 @@ use Rattle.sap_meaning.specs.Touches.{root_touches}
 use Rattle.sap_meaning.specs.Does.{does_state}
 use Rattle.sap_meaning.specs.Runs.{run_state}
 
--- An input gets a number and a level in a cycle.
+-- A number with its level, as an input gets one in a cycle.
 pub record Tagged : Type 0 where
   pub number : ℕ
   pub level : ℕ
@@ -17,11 +17,12 @@ inputs_before [] x = 0
 inputs_before (e ∷ es) zero = 0
 inputs_before (e ∷ es) (suc x) = if kind_is_input e.kind then suc (inputs_before es x) else inputs_before es x
 
--- `given` is what the input `x` gets, the inputs being in the order of their declaration.
+-- `given` is what the input `x` gets, the inputs being in the order of their declaration; it is 0 at the bottom if the
+-- list ends before it.
 abbrev pub given : World → List Tagged → ℕ → Tagged
 given w inputs x = get_or inputs (inputs_before w.entities x) (record { number = 0; level = w.order.bottom })
 
--- The inputs have new contents.
+-- The content of a slot: the new one for an input's own slot, and the old one for every other.
 abbrev pub at_inputs : World → (ℕ → ℕ) → (Slot → ℕ) → Slot → ℕ
 at_inputs w new old (own x) = if is_input w x then new x else old (own x)
 at_inputs w new old (start m i) = old (start m i)
@@ -54,7 +55,7 @@ cycle p inputs s =
     (child (root w) begun) begun in
     record { store = settle a.store; refused = a.refused }
 
--- The same by the program's lists.
+-- A cycle in which what is raised is taken from the lists that the program stores.
 unfoldable pub cycle_listed : Program → List Tagged → Store → After
 cycle_listed p inputs s =
     let w = p.world in
@@ -62,7 +63,7 @@ cycle_listed p inputs s =
     let a = root_fall w (listed p.hang) (λ t. run_state w t (root w)) p.states (child (root w) begun) begun in
     record { store = settle a.store; refused = a.refused }
 
--- `run_from` is the state after each cycle, with the cycle's refusals.
+-- The run on a stream from a store on: the store after each cycle, with the cycle's refusals.
 abbrev pub run_from : Program → Store → List (List Tagged) → List After
 run_from p s [] = []
 run_from p s (inputs ∷ rest) = let a = cycle p inputs s in a ∷ run_from p a.store rest

@@ -34,8 +34,8 @@ effect w at enter (go_to site target) pc before s =
 effect w at enter (fall_to_child site hang) pc before s =
     enter (child at.state before) (w.order.join pc (child_level w at.children (child at.state before) before)) s
 
--- A step: what it raises is raised by its guard. A refused site is told before what the handler refuses, which runs in
--- the context joined with the guard.
+-- A step and its handler. What `hangs` holds of is raised by the guard. Then the step has its effect if its test holds.
+-- Else its refusal is recorded and the handler runs, in the context joined with the guard.
 unfoldable pub attempt : World → Home → (ℕ → ℕ → Store → After) → Step → (ℕ → Bool)
     → (handler : ℕ → Store → After) → ℕ → Store → After
 attempt w at enter k hangs handler pc s =
@@ -48,8 +48,9 @@ attempt w at enter k hangs handler pc s =
     let a = handler inside r in
     record { store = a.store; refused = refusal ∷ a.refused })
 
--- A step with `then`: where its test holds, the accepted part comes behind its effect, in the context joined with the
--- guard.
+-- A step with `then`. What `hangs` holds of is raised by the guard. If the test holds, the step has its effect, and
+-- then the accepted part runs. Else the refusal is recorded, and the refused part runs. Both parts run in the context
+-- joined with the guard.
 unfoldable pub attempt_then : World → Home → (ℕ → ℕ → Store → After) → Step → (ℕ → Bool)
     → (accepted refused : ℕ → Store → After) → ℕ → Store → After
 attempt_then w at enter k hangs accepted refused pc s =
@@ -62,13 +63,14 @@ attempt_then w at enter k hangs accepted refused pc s =
     let a = refused inside r in
     record { store = a.store; refused = refusal ∷ a.refused })
 
--- What the number of an expression picks, in the context joined with its level, by which what hangs is raised first.
+-- First what `hangs` holds of is raised by the level of an expression. Then what `pick` has for the expression's number
+-- is done, in the context joined with that level.
 unfoldable pub select : World → Term ℕ → (ℕ → Bool) → (ℕ → ℕ → Store → After) → ℕ → Store → After
 select w e hangs pick pc s =
     let t = tag w e s in
     pick (value w e s) (w.order.join pc t) (raise w.order hangs t s)
 
--- `branch` is the second where the number is 0, and else the first.
+-- `branch` does its second part if the number is 0, and else its first.
 abbrev pub branch : (ℕ → Store → After) → (ℕ → Store → After) → ℕ → ℕ → Store → After
 branch then_part else_part n pc s = if nat_eq n 0 then else_part pc s else then_part pc s
 

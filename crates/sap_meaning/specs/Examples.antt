@@ -93,7 +93,7 @@ program_of o es children g = record {
   hang = [];
 }
 
--- The state s without children, which goes to itself behind its commands.
+-- The group of the state s alone, which has no children and goes to itself after its commands.
 abbrev pub loop : (s site : ℕ) → (Block → Block) → Group
 loop s site b = and_node (state_node s (b (command_then (lone (go_to site s)) end_block)) no_node) no_node
 
@@ -111,11 +111,11 @@ abbrev pub guarded : Program
 guarded = program_of two_levels (an_input 8 ∷ held_register 8 0 7 ∷ held_state 0 2 0 ∷ []) (0 ∷ 0 ∷ 0 ∷ 1 ∷ [])
     (loop 2 2 (λ b. command_then (lone (assign 1 1 (read 0))) b))
 
--- A write from above is refused, and told at the level of what it would write.
+-- A write from above is refused, and the refusal is recorded at the level of the target.
 abbrev pub GuardedWrite : Type 0
 GuardedWrite = shows guarded 1 ((high 5 ∷ []) ∷ (low 5 ∷ []) ∷ []) ≡ (low 7, refused_at 1 0 ∷ []) ∷ (low 5, []) ∷ []
 
--- The same design with `y := a otherwise { y := 9; }`.
+-- The design of `guarded` with `y := a otherwise { y := 9; }` in place of the assignment.
 abbrev pub handled : Program
 handled = program_of two_levels (an_input 8 ∷ held_register 8 0 7 ∷ held_state 0 2 0 ∷ []) (0 ∷ 0 ∷ 0 ∷ 1 ∷ [])
     (loop 2 3 (λ b. command_then (try (assign 1 1 (read 0)) []
@@ -149,7 +149,8 @@ abbrev pub placed_tag : Program
 placed_tag = program_of two_levels (an_input 8 ∷ held_register 8 0 3 ∷ held_state 0 2 0 ∷ []) (0 ∷ 0 ∷ 0 ∷ 1 ∷ [])
     (loop 2 2 (λ b. command_then (lone (retag 1 1 (at_place (read 0)))) b))
 
--- Beyond the last level it is the top; and what a tag tells may not be above the authority.
+-- A place beyond the last level gives the top; and a `setTag` is refused if what its tag expression tells is not at or
+-- below the authority.
 abbrev pub PlacedTag : Type 0
 PlacedTag = shows placed_tag 1 ((low 7 ∷ []) ∷ (low 0 ∷ []) ∷ (high 1 ∷ []) ∷ []) ≡ (high 3, [])
     ∷ (low 0, []) ∷ (low 0, refused_at 1 0 ∷ []) ∷ []
@@ -161,7 +162,7 @@ under_authority = program_of four_levels
     ∷ held_state 0 1 0 ∷ []) (0 ∷ 0 ∷ 1 ∷ [])
     (loop 1 2 (λ b. command_then (lone (retag 1 0 (fixed 2))) b))
 
--- A level that is not above the authority is refused.
+-- A `setTag` to a level that is not at or above the authority is refused.
 abbrev pub UnderAuthority : Type 0
 UnderAuthority = shows under_authority 0 ([] ∷ []) ≡ (at_level 3 4, refused_at 1 1 ∷ []) ∷ []
 

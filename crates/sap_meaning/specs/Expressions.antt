@@ -9,7 +9,7 @@ use Rattle.sap_meaning.specs.Store.{Store, own, start, number, level}
 abbrev pub width_of : World → Term ℕ → ℕ
 width_of w e = term_width (width w) e
 
--- A read of a memory sees its start part.
+-- The number of an expression in a store. A read of a memory sees its start part.
 abbrev pub value : World → Term ℕ → Store → ℕ
 value w e s = term_value (width w) (λ x. number (own x) s) (λ m i. number (start m i) s) e
 
@@ -35,7 +35,8 @@ new_level w (of e) s = tag w e s
 new_level w (at_place e) s = level_at w.order (value w e s)
 new_level w (both a b) s = w.order.join (new_level w a s) (new_level w b s)
 
--- `told` is the level of what a tag expression tells.
+-- `told` is the information level of a tag expression: the bottom for a written level, the tag of `e` for `tag(e)` and
+-- for `level(e)`, and for a join the join of both.
 abbrev pub told : World → LevelTerm → Store → ℕ
 told w (fixed n) s = w.order.bottom
 told w (of e) s = tag w e s

@@ -32,11 +32,11 @@ FineStep w q g (retag_cell site m j n) = (is_memory w m ≡ true) × (is_dynamic
 FineStep w q g (go_to site target) = among q target ≡ true
 FineStep w q g (fall_to_child site hang) = 0 < size g
 
--- What is asked of a command alone.
+-- A command itself, without its blocks, is fine: its step, its condition or its number is.
 abbrev pub FineCommand : World → (siblings children : Group) → Command → Type 0
 FineCommand w q g c = Asks (FineStep w q g) (FineTerm w) c
 
--- A goto or a fall.
+-- The step is a `goto` or a `fall`.
 abbrev pub transfers : Step → Bool
 transfers (assign site x e) = false
 transfers (write site m i e) = false
@@ -45,11 +45,11 @@ transfers (retag_cell site m j n) = false
 transfers (go_to site target) = true
 transfers (fall_to_child site hang) = true
 
--- Its step, if it has one, is no transfer.
+-- The command has no step of its own, or its step is no transfer.
 abbrev pub NoTransfer : Command → Type 0
 NoTransfer c = Asks (λ k. transfers k ≡ false) (λ e. Unit {0}) c
 
--- No transfer stands in it.
+-- No transfer is in the command or in its blocks.
 abbrev pub Open : Command → Type 0
 Open c = Every NoTransfer c
 
@@ -91,7 +91,7 @@ Nth no_node n t = ⊥
 Nth (and_node a g) zero t = a ≡ t
 Nth (and_node a g) (suc n) t = Nth g n t
 
--- A state with its body and its children g, the n-th of its group q.
+-- What is asked of the state with the number s, the body b and the children g, which is the n-th of the group q.
 pub record FineNode (w : World) (q : Group) (n s : ℕ) (b : Block) (g : Group) : Type 0 where
   pub kind : is_state w s ≡ true
   pub placed : place w s ≡ n
@@ -117,11 +117,11 @@ abbrev mutual
   FineGroup w q n (and_node t g) = FineState w q n t × FineGroup w q (suc n) g
       × ((x : ℕ) → inside g x ≡ true → last w (number_of t) < x)
 
--- Each list in the program has exactly what hangs.
+-- The list has exactly the entities that the command touches.
 abbrev pub ExactList : World → Home → List Bool → Command → Type 0
 ExactList w at hang c = (x : ℕ) → listed hang x ≡ touches w at c x
 
--- A step of a program whose stored lists are what the steps touch; only a `fall` has such a list.
+-- The list of a `fall` has exactly what it touches; no other step has a list.
 abbrev pub ExactStep : World → Home → Step → Type 0
 ExactStep w at (assign site x e) = Unit {0}
 ExactStep w at (write site m i e) = Unit {0}
@@ -130,7 +130,7 @@ ExactStep w at (retag_cell site m j n) = Unit {0}
 ExactStep w at (go_to site target) = Unit {0}
 ExactStep w at (fall_to_child site hang) = ExactList w at hang (lone (fall_to_child site hang))
 
--- What is asked of a command alone.
+-- The list of a command itself, or of the step that it is, has exactly what it touches.
 abbrev pub ExactCommand : World → Home → Command → Type 0
 ExactCommand w at (lone k) = ExactStep w at k
 ExactCommand w at (try k hang h) = ExactList w at hang (try k hang h)
@@ -148,13 +148,14 @@ abbrev mutual
   ExactGroup w p no_node = Unit {0}
   ExactGroup w p (and_node t g) = ExactState w p t × ExactGroup w p g
 
--- Each list that a program stores is what its command, or the root, touches.
+-- Each list by which a cycle of the program runs is what its command, or the root's fall, touches. Of the list of a
+-- `fall` with a handler nothing is asked, since no cycle reads it.
 pub record ExactProgram (p : Program) : Type 0 where
   pub lists : ExactGroup p.world (root p.world) p.states
   pub hang : (x : ℕ) → listed p.hang x ≡ root_touches p.world p.states x
 
--- What the laws ask of a program: a lawful order, states numbered by place, no memory written twice, and dynamic
--- inputs.
+-- What the laws ask of a program: a lawful order, states that are as their entities say, no memory written twice on a
+-- path, and dynamic inputs.
 pub record FineProgram (p : Program) : Type 0 where
   pub order : Laws p.world.order
   pub states : FineGroup p.world p.states 0 p.states

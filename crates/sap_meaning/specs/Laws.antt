@@ -21,8 +21,8 @@ ListsServe = (p : Program) → ExactProgram p → (inputs : List Tagged) (s : St
 abbrev pub Keeps : World → (Store → After) → Type 0
 Keeps w f = (s : Store) → Holds w s → Holds w (f s).store
 
--- Every command in the body of a state of the group q, in which each state has a place, keeps it, where what the
--- children do keeps it.
+-- Every command in the body of a state of the group q keeps what every state keeps, if what the children do keeps it.
+-- Each state of q has a place among the parent's children.
 abbrev pub CommandsKeep : Type 0
 CommandsKeep = (w : World) (at : Home) (q : Group) → ((s : ℕ) → among q s ≡ true → place w s < children w at.parent)
     → (enter : ℕ → ℕ → Store → After) → ((n pc : ℕ) → Keeps w (enter n pc))
@@ -34,15 +34,15 @@ StatesRest = (p : Program) → FineProgram p
     → Resting p.world (first p.world) × ((inputs : List Tagged) (s : Store) → Resting p.world s
     → Resting p.world (cycle p inputs s).store)
 
--- And numbers stay within their widths, and levels levels, as long as the inputs' do.
+-- From the first state on numbers stay within their widths and levels stay levels, as long as those of the inputs do.
 abbrev pub NumbersFit : Type 0
 NumbersFit = (p : Program) → FineProgram p → SizedProgram p
     → Fits p.world (first p.world)
     × ((inputs : List Tagged) (s : Store) → InputsFit p.world inputs → Fits p.world s
     → Fits p.world (cycle p inputs s).store)
 
--- What is refused in a cycle are check sites in the order of the text; so where these rise, it rises, and no site is
--- refused twice.
+-- The sites that a cycle refuses are check sites of the program, in the order of the text. If the numbers of the check
+-- sites rise, so do those of the refused ones, and no site is refused twice.
 abbrev pub SitesInOrder : Type 0
 SitesInOrder = (p : Program) → FineProgram p → (inputs : List Tagged) (s : Store)
     → Sublist (refused_sites (cycle p inputs s).refused) (program_sites p)

@@ -16,7 +16,7 @@ step_writes (fall_to_child site hang) m = false
 abbrev pub writes : Command → ℕ → Bool
 writes c m = some (λ k. step_writes k m) c
 
--- It writes m, or falls, where m is written by what a fall leads to.
+-- A step writes or retags a cell of m, or it is a `fall` and `falls` holds of m.
 abbrev pub step_reaching : (falls : ℕ → Bool) → Step → ℕ → Bool
 step_reaching falls (assign site x e) m = false
 step_reaching falls (write site n i e) m = nat_eq m n
@@ -25,15 +25,15 @@ step_reaching falls (retag_cell site n j t) m = nat_eq m n
 step_reaching falls (go_to site target) m = false
 step_reaching falls (fall_to_child site hang) m = falls m
 
--- Some step of a command writes this memory, or falls into a state that does so by the given test.
+-- Some step of a command writes or retags a cell of m, or is a `fall` while `falls` holds of m.
 abbrev pub reaching : (falls : ℕ → Bool) → Command → ℕ → Bool
 reaching falls c m = some (λ k. step_reaching falls k m) c
 
--- Some step of the arms does so.
+-- Some step of the arms of a `case` writes or retags a cell of m, or is a `fall` while `falls` holds of m.
 abbrev pub arms_reaching : (falls : ℕ → Bool) → Arms → ℕ → Bool
 arms_reaching falls arms m = some_in_arms (λ k. step_reaching falls k m) arms
 
--- Some step of a block does so.
+-- Some step of a block writes or retags a cell of m, or is a `fall` while `falls` holds of m.
 abbrev pub block_reaching : (falls : ℕ → Bool) → Block → ℕ → Bool
 block_reaching falls b m = some_in_block (λ k. step_reaching falls k m) b
 
@@ -46,19 +46,21 @@ abbrev mutual
   group_reaches no_node m = false
   group_reaches (and_node t g) m = state_reaches t m || group_reaches g m
 
--- It writes m, or a body that it may fall into does, where g are the children.
+-- A step writes or retags a cell of m, or falls where a body of the children g, or one that these may fall into, does
+-- so.
 abbrev pub step_reaches : Group → Step → ℕ → Bool
 step_reaches g k m = step_reaching (group_reaches g) k m
 
--- A command writes this memory, itself or by a fall into these children.
+-- A command writes or retags a cell of m, itself or by a fall into the children g.
 abbrev pub reaches : Group → Command → ℕ → Bool
 reaches g c m = reaching (group_reaches g) c m
 
--- A block writes this memory, itself or by a fall into these children.
+-- A block writes or retags a cell of m, itself or by a fall into the children g.
 abbrev pub block_reaches : Group → Block → ℕ → Bool
 block_reaches g b m = block_reaching (group_reaches g) b m
 
--- A fall asks for what has to hold where it leads.
+-- A `fall` asks for `below`, which is what has to hold of the bodies that it may enter; no other step asks for
+-- anything.
 abbrev pub OnceStep : (below : Type 0) → Step → Type 0
 OnceStep below (assign site x e) = Unit {0}
 OnceStep below (write site m i e) = Unit {0}

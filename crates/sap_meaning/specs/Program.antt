@@ -12,8 +12,9 @@ pub data Kind : Type 0 where
   memory : (depth : ℕ) → Kind
   state : (place last : ℕ) → Kind
 
--- `width` is that of a number, 0 for a state. `declared` is the level that an enforced entity starts with.
--- Inputs are dynamic. `initial` is the number that a register starts with.
+-- An input, a register, a memory or a state. `width` is that of its numbers, 0 for a state. An enforced entity starts
+-- with the level `declared` and has the authority `authority`. A register starts with the number `initial`. Inputs are
+-- dynamic.
 pub record Entity : Type 0 where
   pub kind : Kind
   pub width : ℕ
@@ -28,11 +29,11 @@ pub record World : Type 0 where
   pub entities : List Entity
   pub children : List ℕ
 
--- A number past the last entity stands for this.
+-- A number past the last entity, the root's included, counts as a dynamic state without width.
 abbrev pub nothing : Entity
 nothing = record { kind = state 0 0; width = 0; dynamic = true; declared = 0; authority = 0; initial = 0 }
 
--- The entity of a number; a number without one stands for nothing.
+-- The entity of a number, and `nothing` if the number has none.
 abbrev pub entity : World → ℕ → Entity
 entity w x = get_or w.entities x nothing
 
@@ -44,7 +45,7 @@ root w = length w.entities
 abbrev pub is_dynamic : World → ℕ → Bool
 is_dynamic w x = (entity w x).dynamic
 
--- The level of the authority of an entity.
+-- The authority of an entity, which is a level.
 abbrev pub authority : World → ℕ → ℕ
 authority w x = (entity w x).authority
 
@@ -56,28 +57,28 @@ width w x = (entity w x).width
 abbrev pub children : World → ℕ → ℕ
 children w p = get_or w.children p 0
 
--- This is the kind of inputs.
+-- The kind is that of an input.
 abbrev pub kind_is_input : Kind → Bool
 kind_is_input input = true
 kind_is_input register = false
 kind_is_input (memory depth) = false
 kind_is_input (state place last) = false
 
--- This is the kind of registers.
+-- The kind is that of a register.
 abbrev pub kind_is_register : Kind → Bool
 kind_is_register input = false
 kind_is_register register = true
 kind_is_register (memory depth) = false
 kind_is_register (state place last) = false
 
--- This is the kind of memories.
+-- The kind is that of a memory.
 abbrev pub kind_is_memory : Kind → Bool
 kind_is_memory input = false
 kind_is_memory register = false
 kind_is_memory (memory depth) = true
 kind_is_memory (state place last) = false
 
--- This is the kind of states.
+-- The kind is that of a state.
 abbrev pub kind_is_state : Kind → Bool
 kind_is_state input = false
 kind_is_state register = false
@@ -100,21 +101,21 @@ is_memory w x = kind_is_memory (entity w x).kind
 abbrev pub is_state : World → ℕ → Bool
 is_state w x = kind_is_state (entity w x).kind
 
--- The place of a state in its group, from 0.
+-- The place of a state in its group, from 0; 0 for another kind.
 abbrev pub place_of : Kind → ℕ
 place_of input = 0
 place_of register = 0
 place_of (memory depth) = 0
 place_of (state place last) = place
 
--- One past the last entity among a state's descendants.
+-- The number of the last state inside a state, its own if it is a leaf; 0 for another kind.
 abbrev pub last_of : Kind → ℕ
 last_of input = 0
 last_of register = 0
 last_of (memory depth) = 0
 last_of (state place last) = last
 
--- The number of cells of a memory.
+-- The number of cells of a memory; 0 for another kind.
 abbrev pub depth_of : Kind → ℕ
 depth_of input = 0
 depth_of register = 0
@@ -140,8 +141,8 @@ pub data LevelTerm : Type 0 where
   at_place : Term ℕ → LevelTerm
   both : LevelTerm → LevelTerm → LevelTerm
 
--- A command that may be a check site, with the site's number where it is one: `x := e`, `m[i] := e`, `setTag(x, n)`
--- on a register or a state, `setTag(m[j], n)`, `goto s`, and `fall`, with what hangs on it.
+-- A command that may be a check site, with the site's number, or 0 if it is none: `x := e`, `m[i] := e`, `setTag(x, n)`
+-- on a register or a state, `setTag(m[j], n)`, `goto s`, and `fall`, which has the list of what it touches.
 pub data Step : Type 0 where
   assign : (site register : ℕ) → Term ℕ → Step
   write : (site memory : ℕ) → (index value : Term ℕ) → Step
@@ -151,8 +152,9 @@ pub data Step : Type 0 where
   fall_to_child : (site : ℕ) → (hang : List Bool) → Step
 
 mutual
-  -- A step alone, a step with `otherwise`, `if`, a step with `then` and `otherwise`, and `case`, all but the first
-  -- with what hangs on them: at each entity's number whether it hangs.
+  -- A step alone, a step with `otherwise`, `if`, a step with `then` and `otherwise`, and `case`. All but the first have
+  -- a list of what they touch: at each entity's number, whether it is touched. The labelled meaning doesn't read these
+  -- lists.
   pub data Command : Type 0 where
     lone : Step → Command
     try : Step → (hang : List Bool) → (handler : Block) → Command
@@ -160,7 +162,7 @@ mutual
     try_then : Step → (hang : List Bool) → (accepted refused : Block) → Command
     case_of : (hang : List Bool) → (number : Term ℕ) → Arms → Command
 
-  -- The arms of a `case` have the numbers of their constants each, and the block after `else` comes last.
+  -- The arms of a `case`: each has the numbers of its constants and a block, and the block after `else` comes last.
   pub data Arms : Type 0 where
     last_arm : Block → Arms
     and_arm : (constants : List ℕ) → Block → Arms → Arms
@@ -175,17 +177,18 @@ mutual
   pub data State : Type 0 where
     state_node : (number : ℕ) → (body : Block) → (children : Group) → State
 
-  -- The children of a state, in the order of their numbers.
+  -- The states of a group, in the order of the text: the children of a state, or the top-level states.
   pub data Group : Type 0 where
     no_node : Group
     and_node : State → Group → Group
 
--- `states` are the top-level states, `hang` is what hangs on the root's fall.
+-- A program: `states` are the top-level states, and `hang` is the list of what the root's fall touches, which the
+-- labelled meaning doesn't read.
 pub record Program : Type 0 where
   pub world : World
   pub states : Group
   pub hang : List Bool
 
--- What a list of tests holds of.
+-- The list is true at the place `x`; past its end it is false.
 abbrev pub listed : List Bool → ℕ → Bool
 listed hang x = get_or hang x false

@@ -6,7 +6,8 @@ use Rattle.sap_meaning.specs.Checks.{Home}
 use Rattle.sap_meaning.specs.Touches.{touches}
 use Rattle.sap_meaning.specs.Does.{attempt, attempt_then, select, branch, choose_arm}
 
--- What a step with no handler raises: for a goto the state in whose body it stands, if dynamic.
+-- What a step with no handler raises: for a `goto` the state in whose body it is, if dynamic; for a `fall` what its
+-- list has; else nothing.
 abbrev pub listed_alone : World → Home → Step → ℕ → Bool
 listed_alone w at (assign site y e) x = false
 listed_alone w at (write site m i e) x = false

@@ -8,8 +8,8 @@ use Rattle.sap_meaning.specs.Fine.{FineProgram, ExactProgram}
 use Rattle.sap_meaning.specs.Sized.{SizedProgram}
 use Rattle.sap_meaning.specs.Sites.{RisesFrom, program_sites}
 
--- Input a : 2; reg x : 8 dynamic; reg y : 8 enforced low = 7; mem m : 8[4] dynamic; mem k : 8[4] enforced low;
--- and the states P, with the children C and D, and Q, which have the numbers 5, 6, 7 and 8.
+-- The entities of the text `input a : 2; reg x : 8 dynamic; reg y : 8 enforced low = 7; mem m : 8[4] dynamic; mem k :
+-- 8[4] enforced low;` and of the states P, with the children C and D, and Q, which have the numbers 5, 6, 7 and 8.
 abbrev pub sample_entities : List Entity
 sample_entities = an_input 2 ∷ a_register 8 ∷ held_register 8 0 7 ∷ a_memory 8 4 ∷ held_memory 8 4 0
     ∷ held_state 0 7 0 ∷ a_state 0 6 ∷ held_state 1 7 1 ∷ held_state 1 8 1 ∷ []
@@ -22,11 +22,11 @@ sample_world = record {
   children = 0 ∷ 0 ∷ 0 ∷ 0 ∷ 0 ∷ 2 ∷ 0 ∷ 0 ∷ 0 ∷ 2 ∷ [];
 }
 
--- `x`, m and C hang on the fall, x and m on the root's.
+-- What the `fall` of P touches: x, m and C.
 abbrev pub on_fall : List Bool
 on_fall = false ∷ true ∷ false ∷ true ∷ false ∷ false ∷ true ∷ []
 
--- What the root touches in it.
+-- What the root's fall touches: x and m.
 abbrev pub on_root : List Bool
 on_root = false ∷ true ∷ false ∷ true ∷ []
 
@@ -53,11 +53,11 @@ body_p = command_then (try (assign 1 2 (cell 3 (read 0))) []
     (command_then (try (fall_to_child 5 on_fall) on_fall (command_then (lone (go_to 6 5)) end_block)) end_block))
     end_block))
 
--- The children of its first state.
+-- The children of P: C and D.
 abbrev pub sample_kids : Group
 sample_kids = and_node (state_node 6 body_c no_node) (and_node (state_node 7 body_d no_node) no_node)
 
--- Its top-level states.
+-- The top-level states: P and Q.
 abbrev pub sample_states : Group
 sample_states = and_node (state_node 5 body_p sample_kids) (and_node (state_node 8 body_q no_node) no_node)
 
@@ -65,7 +65,7 @@ sample_states = and_node (state_node 5 body_p sample_kids) (and_node (state_node
 abbrev pub sample : Program
 sample = record { world = sample_world; states = sample_states; hang = on_root }
 
--- All of it holds of the sample.
+-- The sample has all that the laws ask of a program.
 pub record SampleIsFine : Type 0 where
   pub fine : FineProgram sample
   pub exact : ExactProgram sample

@@ -26,7 +26,7 @@ pub record PlacedStep : Type 0 where
   pub state : ℕ
   pub step : Step
 
--- A step by itself is a check site, or none.
+-- The check site that a step by itself is, if it is one.
 abbrev pub step_sites : World → (s : ℕ) → (g : Group) → Step → List PlacedStep
 step_sites w s g k = if is_site w s g k then record { state = s; step = k } ∷ [] else []
 
@@ -34,23 +34,23 @@ step_sites w s g k = if is_site w s g k then record { state = s; step = k } ∷ 
 abbrev pub command_sites : World → (s : ℕ) → (g : Group) → Command → List PlacedStep
 command_sites w s g c = gathered [] ◌++◌ (step_sites w s g) c
 
--- Those of the arms of a `case`.
+-- The check sites of the arms of a `case`, in the order of the text.
 abbrev pub arms_sites : World → (s : ℕ) → (g : Group) → Arms → List PlacedStep
 arms_sites w s g arms = gathered_in_arms [] ◌++◌ (step_sites w s g) arms
 
--- Those of a block.
+-- The check sites of a block, in the order of the text.
 abbrev pub block_sites : World → (s : ℕ) → (g : Group) → Block → List PlacedStep
 block_sites w s g b = gathered_in_block [] ◌++◌ (step_sites w s g) b
 
--- Those in a state's body.
+-- The check sites in a state's body, in the order of the text.
 abbrev pub body_sites : World → State → List PlacedStep
 body_sites w (state_node s b g) = block_sites w s g b
 
--- Those of a state's body and of its descendants' bodies.
+-- The check sites in the bodies of a state and of its descendants, in the order of the text.
 abbrev pub state_sites : World → State → List PlacedStep
 state_sites w t = gathered_from [] ◌++◌ (body_sites w) t
 
--- Those of a group of states.
+-- The check sites in the bodies of a group of states and of their descendants, in the order of the text.
 abbrev pub group_sites : World → Group → List PlacedStep
 group_sites w g = gathered_from_group [] ◌++◌ (body_sites w) g
 
@@ -81,7 +81,7 @@ abbrev pub RisesFrom : ℕ → List ℕ → Type 0
 RisesFrom n [] = Unit {0}
 RisesFrom n (x ∷ xs) = (n ≤ x) × RisesFrom (suc x) xs
 
--- The numbers are `k`, `k + 1` and so on, as many as this.
+-- The numbers from `k` on, as many as `count`.
 abbrev pub numbers_from : (k count : ℕ) → List ℕ
 numbers_from k zero = []
 numbers_from k (suc n) = k ∷ numbers_from (suc k) n

@@ -14,19 +14,20 @@ depth w m = depth_of (entity w m).kind
 abbrev pub Indexes : World → ℕ → Term ℕ → Type 0
 Indexes w m i = 2 ^ width_of w i ≡ depth w m
 
--- So it is with each index in a term.
+-- Each index in a term has as many bits as its memory's depth asks for.
 abbrev pub Indexed : World → Term ℕ → Type 0
 Indexed w e = EveryRead (λ x. Unit {0}) (Indexes w) e
 
--- In an expression each operand has the width that its operator takes, and each index has the width of its memory.
+-- In an expression each operand has the width that its operator takes, each constant is within its width, and each
+-- index has as many bits as its memory's depth asks for.
 abbrev pub SizedTerm : World → Term ℕ → Type 0
 SizedTerm w e = TermFits (width w) e × Indexed w e
 
--- In a tag expression each expression has such widths.
+-- The widths of each expression in a tag expression fit.
 abbrev pub SizedLevel : World → LevelTerm → Type 0
 SizedLevel w n = EveryLevel (λ level. Unit {0}) (SizedTerm w) n
 
--- In a step each expression has such widths, and the assigned value has the target's width.
+-- The widths of each expression in a step fit, and the assigned value has the target's width.
 abbrev pub SizedStep : World → Step → Type 0
 SizedStep w (assign site x e) = SizedTerm w e × (width_of w e ≡ width w x)
 SizedStep w (write site m i e) = SizedTerm w i × Indexes w m i × SizedTerm w e × (width_of w e ≡ width w m)
@@ -39,7 +40,8 @@ SizedStep w (fall_to_child site hang) = Unit {0}
 abbrev pub AreWithin : (width : ℕ) → List ℕ → Type 0
 AreWithin u ns = AllByRecursion (λ n. n < 2 ^ u) ns
 
--- A condition has one bit, and the constants of a `case` are within the width of its number.
+-- The widths of a command itself, without its blocks, fit: those of its step or of its expression. A condition has one
+-- bit, and the constants of a `case` are within the width of its number.
 abbrev pub SizedCommand : World → Command → Type 0
 SizedCommand w (lone k) = SizedStep w k
 SizedCommand w (try k hang h) = SizedStep w k
@@ -47,11 +49,11 @@ SizedCommand w (if_else hang e a b) = SizedTerm w e × (width_of w e ≡ 1)
 SizedCommand w (try_then k hang a b) = SizedStep w k
 SizedCommand w (case_of hang e arms) = SizedTerm w e × AllByRecursion (AreWithin (width_of w e)) (arm_constants arms)
 
--- In a state's body, and in those of its descendants, each step has such widths.
+-- The widths of each command fit, in a state's body and in those of its descendants.
 abbrev pub SizedState : World → State → Type 0
 SizedState w t = EveryBody (EveryInBlock (SizedCommand w)) t
 
--- In the bodies of a group's states and of their descendants each step has such widths.
+-- The widths of each command fit, in the bodies of a group's states and of their descendants.
 abbrev pub SizedGroup : World → Group → Type 0
 SizedGroup w g = EveryBodyIn (EveryInBlock (SizedCommand w)) g
 

@@ -18,7 +18,7 @@ first_number w (next_whole m) = 0
 abbrev pub first_level : World → Slot → ℕ
 first_level w z = if is_dynamic w (owner z) then w.order.bottom else (entity w (owner z)).declared
 
--- Each group's current child is its first.
+-- The first state of a program: start numbers, start levels, and in each group the first child is current.
 unfoldable pub first : World → Store
 first w = record { number = first_number w; level = first_level w; child = λ p. 0 }
 
@@ -34,7 +34,7 @@ pub record Rests (w : World) (s : Store) : Type 0 where
   pub numbers : (m i : ℕ) → number (start m i) s ≡ number (next m i) s
   pub levels : (m i : ℕ) → level w (start m i) s ≡ level w (next m i) s
 
--- A state between cycles keeps these rules.
+-- A state between cycles: it keeps what every state keeps, and the two parts of each memory are equal.
 pub record Resting (w : World) (s : Store) : Type 0 where
   pub holds : Holds w s
   pub rests : Rests w s
@@ -53,17 +53,19 @@ abbrev pub input_widths : List Entity → List ℕ
 input_widths [] = []
 input_widths (e ∷ es) = if kind_is_input e.kind then e.width ∷ input_widths es else input_widths es
 
--- There are one number below 2 to its width and one level for each input.
+-- There is one item for each width: its number is below 2 to the width, and its level is below `levels`. There are no
+-- others.
 abbrev pub AllFit : (levels : ℕ) → (widths : List ℕ) → List Tagged → Type 0
 AllFit levels [] [] = Unit {0}
 AllFit levels [] (t ∷ ts) = ⊥
 AllFit levels (u ∷ us) [] = ⊥
 AllFit levels (u ∷ us) (t ∷ ts) = (t.number < 2 ^ u) × (t.level < levels) × AllFit levels us ts
 
--- A cycle of a stream has a number for each input that fits its width, and a level of the lattice.
+-- The inputs of a cycle fit: there is one for each input of the design, with a number below 2 to its width and a level
+-- of the lattice.
 abbrev pub InputsFit : World → List Tagged → Type 0
 InputsFit w inputs = AllFit w.order.count (input_widths w.entities) inputs
 
--- A stream fits if it does so in every cycle.
+-- A stream fits if the inputs of each of its cycles fit.
 abbrev pub StreamFits : World → List (List Tagged) → Type 0
 StreamFits w stream = AllByRecursion (InputsFit w) stream

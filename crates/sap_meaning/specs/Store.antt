@@ -12,7 +12,8 @@ pub data Slot : Type 0 where
   start_whole : (memory : ℕ) → Slot
   next_whole : (memory : ℕ) → Slot
 
--- `child` has the place of the current child of each state with children, and of the root.
+-- What changes while a program runs: the number and the level of each slot, and the place of the current child of each
+-- state with children and of the root.
 pub record Store : Type 0 where
   pub number : Slot → ℕ
   pub level : Slot → ℕ
@@ -34,8 +35,8 @@ home w (next m i) = if is_dynamic w m then next_whole m else next m i
 home w (start_whole m) = start_whole m
 home w (next_whole m) = next_whole m
 
--- Whether a slot has a number, and a level of its own where its entity is enforced: that of an entity that is no
--- memory, or of a memory's cell.
+-- The slot is the own slot of an entity that is no memory, or a cell of a memory. In an enforced entity each such slot
+-- has a level of its own.
 abbrev pub held : World → Slot → Bool
 held w (own x) = not (is_memory w x)
 held w (start m i) = is_memory w m
@@ -51,7 +52,7 @@ number z s = s.number z
 abbrev pub level : World → Slot → Store → ℕ
 level w z s = s.level (home w z)
 
--- The current child of a state, by its place in the group.
+-- The current child of a state or of the root, by its place in the group.
 abbrev pub child : ℕ → Store → ℕ
 child p s = s.child p
 
@@ -76,8 +77,8 @@ put_level w z t s = record s { level = λ y. if same_slot y (home w z) then t el
 unfoldable pub put_child : ℕ → ℕ → Store → Store
 put_child p n s = record s { child = λ q. if nat_eq q p then n else s.child q }
 
--- The slots whose level a raise changes: those of a state or a register, and the next part of a memory, whose own
--- slot has nothing. Enforced entities, and so single cells, are never raised.
+-- The slots whose level a raise changes: the own slot of each entity of which `hangs` holds, and the next part of each
+-- such memory as a whole. `hangs` holds of dynamic entities alone, so no single cell is raised.
 abbrev pub raised : (ℕ → Bool) → Slot → Bool
 raised hangs (own x) = hangs x
 raised hangs (start m i) = false
@@ -85,7 +86,7 @@ raised hangs (next m i) = false
 raised hangs (start_whole m) = false
 raised hangs (next_whole m) = hangs m
 
--- The level of each entity that depends on the command becomes its join with `t`.
+-- The level of each entity of which `hangs` holds becomes its join with `t`.
 unfoldable pub raise : Order → (ℕ → Bool) → ℕ → Store → Store
 raise o hangs t s = record s { level = λ z. if raised hangs z then o.join (s.level z) t else s.level z }
 
@@ -104,7 +105,8 @@ reset w target s = record s {
   child = λ p. if nat_eq p target then 0 else if below w target p then 0 else s.child p;
 }
 
--- A slot takes its content from there when a cycle ends.
+-- The slot from which a slot takes its content when a cycle ends: from the next part for the start part of a memory,
+-- else from itself.
 abbrev pub source : Slot → Slot
 source (own x) = own x
 source (start m i) = next m i
@@ -121,7 +123,7 @@ pub record Refusal : Type 0 where
   pub site : ℕ
   pub level : ℕ
 
--- A command leaves a store, and what was refused, in order.
+-- What commands leave: a store, and what they refused, in order.
 pub record After : Type 0 where
   pub store : Store
   pub refused : List Refusal

@@ -63,8 +63,9 @@ abbrev pub among : Group → ℕ → Bool
 among no_node x = false
 among (and_node (state_node s b k) g) x = nat_eq x s || among g x
 
--- The entities, dynamic or not, that a step in the body of a state with those children touches: what it assigns; by a
--- goto the state itself; by a fall its children and what the bodies below it assign.
+-- A step in the body of the state `s` with the children `g` concerns the entity `x`, dynamic or not. An assignment or a
+-- write concerns its target, and a `goto` the state `s`. A `fall` concerns the children and what is assigned in their
+-- bodies and in those below them.
 abbrev pub step_hangs : ℕ → Group → Step → ℕ → Bool
 step_hangs s g (assign site y e) x = nat_eq x y
 step_hangs s g (write site m i e) x = nat_eq x m
@@ -73,23 +74,24 @@ step_hangs s g (retag_cell site m j n) x = false
 step_hangs s g (go_to site target) x = nat_eq x s
 step_hangs s g (fall_to_child site hang) x = among g x || group_assigns g x
 
--- A command touches this entity: whether some step of it ran can be told by the entity.
+-- Some step of a command concerns the entity `x`, dynamic or not.
 abbrev pub hangs : ℕ → Group → Command → ℕ → Bool
 hangs s g c x = some (λ k. step_hangs s g k x) c
 
--- Some step of the arms touches this entity.
+-- Some step of the arms of a `case` concerns the entity `x`, dynamic or not.
 abbrev pub arms_hang : ℕ → Group → Arms → ℕ → Bool
 arms_hang s g arms x = some_in_arms (λ k. step_hangs s g k x) arms
 
--- Some step of a block touches this entity.
+-- Some step of a block concerns the entity `x`, dynamic or not.
 abbrev pub block_hangs : ℕ → Group → Block → ℕ → Bool
 block_hangs s g b x = some_in_block (λ k. step_hangs s g k x) b
 
--- `touches` has the dynamic entities among them.
+-- A command touches the entity `x`: `x` is dynamic, and some step of the command concerns it, as `step_hangs` says.
 abbrev pub touches : World → Home → Command → ℕ → Bool
 touches w at c x = is_dynamic w x && hangs at.state at.children c x
 
--- The root's fall has all states below it.
+-- The root's fall touches the entity `x`: a dynamic top-level state, or a dynamic register or memory that the body of
+-- some state assigns.
 abbrev pub root_touches : World → Group → ℕ → Bool
 root_touches w g x = is_dynamic w x && (among g x || group_assigns g x)
 

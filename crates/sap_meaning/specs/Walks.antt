@@ -6,7 +6,7 @@ use Rattle.sap_meaning.specs.Program.{LevelTerm, fixed, of, at_place, both, Step
 
 -- P holds of each written level, Q of each expression whose level is taken.
 module _ (P : ℕ → Type 0) (Q : Term ℕ → Type 0) where
-  -- P holds of each fixed level of a level's term, and Q of each term in it.
+  -- `P` holds of each written level of a tag expression, and `Q` of each expression in it.
   abbrev pub EveryLevel : LevelTerm → Type 0
   EveryLevel (fixed n) = P n
   EveryLevel (of e) = Q e
@@ -101,7 +101,7 @@ module _ (step : Step → Step) (hang_of : Command → List Bool) where
     mapped_block end_block = end_block
     mapped_block (command_then c cs) = command_then (mapped c) (mapped_block cs)
 
--- `p` holds of some step.
+-- `p` holds of some step of a command, those in its blocks included.
 abbrev pub some : (p : Step → Bool) → Command → Bool
 some p c = gathered false ◌||◌ p c
 

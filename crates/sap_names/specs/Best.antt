@@ -14,6 +14,6 @@ comes_first a b =
 abbrev pub better : Option Fault → Fault → Option Fault
 better o f = best.better comes_first o f
 
--- The first of o and those.
+-- The first of `o` and the faults of the list.
 abbrev pub best_of : Option Fault → List Fault → Option Fault
 best_of o fs = best.best_of comes_first o fs

@@ -24,7 +24,7 @@ entity_of (Memory place name width depth kind) =
 abbrev pub declared_in : List Decl → List Entity
 declared_in ds = map entity_of ds
 
--- A state stands before its children.
+-- The entities of a state and of all below it, a state before its children; and those of a list of states.
 abbrev mutual
   pub state_entities : StateTree → List Entity
   state_entities (state_node place name kind body children) =
@@ -39,20 +39,20 @@ abbrev mutual
 abbrev pub entities_of : DesignTree → List Entity
 entities_of d = declared_in d.declarations ++ group_entities d.states
 
--- A look-up has what is known of each name.
+-- A look-up says what is declared of a name, if anything.
 abbrev pub Lookup : Type 0
 Lookup = List ℕ → Option Declared
 
--- The first declaration of a name counts.
+-- The first entity of this name, if there is one.
 abbrev pub find : List Entity → List ℕ → Option Entity
 find es name = list_find (λ e. bytes_eq e.name.name name) es
 
--- `number_of` is the number of a name, from 0 in the order of the text.
+-- The number of a name, from 0 in the order of the text, if it is declared.
 abbrev pub number_of : List Entity → List ℕ → Option ℕ
 number_of [] name = None
 number_of (e ∷ es) name = if bytes_eq e.name.name name then Some 0 else option_map (λ n. n + 1) (number_of es name)
 
--- `entity_number` is that number, and 0 for a name that is declared nowhere.
+-- The number of a name, from 0 in the order of the text, and 0 for a name that is declared nowhere.
 abbrev pub entity_number : List Entity → List ℕ → ℕ
 entity_number es name = unwrap_or (number_of es name) 0
 
@@ -60,7 +60,7 @@ entity_number es name = unwrap_or (number_of es name) 0
 abbrev pub what_is : List Entity → Lookup
 what_is es name = option_map (λ e. e.what) (find es name)
 
--- What stands for a name is dynamic, or is enforced.
+-- There is an entity, and it is dynamic, as inputs are.
 abbrev pub dynamic_of : Option Entity → Bool
 dynamic_of None = false
 dynamic_of (Some e) = e.dynamic

@@ -21,7 +21,7 @@ use Rattle.sap_names.specs.declared.kind.Code.TheVariants.{E3, E4, E5, E6, E7, E
 use Rattle.sap_names.specs.Entities.{Entity, Lookup, what_is, entities_of}
 use Rattle.sap_names.specs.Widths.{sound_width, index_bits, register_width, cell_width, index_width, own, width_of, family, asked_left, asked_right, asked_one, is_sound, all_sound}
 
--- There is a fault where the test holds.
+-- A fault of this code at this place if the test holds, else none.
 abbrev pub fault_if : Bool → Code → Place → List Fault
 fault_if test code place = if test then (let f : Fault = record { code = code; place = place } in f ∷ []) else []
 
@@ -37,7 +37,7 @@ abbrev pub too_large : Option ℕ → (value : ℕ) → Bool
 too_large None value = false
 too_large (Some w) value = leb (2 ^ w) value
 
--- E4 applies where a used name is declared nowhere, E5 where it is of the wrong kind.
+-- What is declared is of the kind that this use needs.
 abbrev pub fits_use : Use → Declared → Bool
 fits_use u.Assigned (d.Input width) = false
 fits_use u.Assigned (d.Register width) = true
@@ -69,7 +69,8 @@ use_faults how (Some declared) place = fault_if (not (fits_use how declared)) E5
 abbrev pub name_faults : Use → Lookup → Mention → List Fault
 name_faults how what m = use_faults how (what m.name) m.place
 
--- These faults are in an expression whose place asks for a width or for none.
+-- The faults of an expression, from which its place asks for this width, or for none; and those of a concatenation's
+-- parts.
 abbrev mutual
   pub expression_faults : Lookup → Expression → (asked : Option ℕ) → List Fault
   expression_faults what (literal spot value) asked =
@@ -124,7 +125,7 @@ abbrev pub constants_faults : Lookup → (asked : Option ℕ) → Expressions �
 constants_faults what asked no_part = []
 constants_faults what asked (and_part e parts) = expression_faults what e asked ++ constants_faults what asked parts
 
--- E6: a level name is no level.
+-- The name is that of a level.
 abbrev pub is_level : List (List ℕ) → List ℕ → Bool
 is_level levels name = is_some (level_named levels name)
 
@@ -196,8 +197,8 @@ abbrev mutual
   commands_faults levels what no_command = []
   commands_faults levels what (and_command c cs) = command_faults levels what c ++ commands_faults levels what cs
 
--- A kind has E6 at a level name that is no level, and E9 where the authority isn't at or below the level; `le` is the
--- order of the levels.
+-- The faults of a written authority: E6 if it is no level, and E9 at the level after `enforced` if both are levels and
+-- the authority isn't at or below it.
 abbrev pub under_faults : List (List ℕ) → (le : ℕ → ℕ → Bool) → Mention → Option Under → List Fault
 under_faults levels le level None = []
 under_faults levels le level (Some under) =
@@ -243,12 +244,12 @@ abbrev mutual
   states_faults levels le what no_state = []
   states_faults levels le what (and_state s rest) = state_faults levels le what s ++ states_faults levels le what rest
 
--- E3: a declared name is declared earlier.
+-- One of the entities has this name.
 abbrev pub is_declared : List Entity → List ℕ → Bool
 is_declared [] name = false
 is_declared (e ∷ es) name = if bytes_eq e.name.name name then true else is_declared es name
 
--- E3 is found among the entities that stand before, and those that follow.
+-- The faults E3 of the second list: one at each name that an entity before it has, in the first list or in the second.
 abbrev pub twice : List Entity → List Entity → List Fault
 twice before [] = []
 twice before (e ∷ es) = fault_if (is_declared before e.name.name) E3 e.name.place ++ twice (before ++ e ∷ []) es

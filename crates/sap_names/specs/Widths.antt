@@ -11,11 +11,11 @@ use Rattle.sap_names.specs.declared.kind.Family.{Family}
 use Rattle.sap_names.specs.declared.kind.Family.TheVariants.{Arithmetic, Shift, Comparison}
 use Rattle.sap_names.specs.Entities.{Lookup}
 
--- `a` width is from 1 to 64.
+-- A written width, if it is from 1 to 64, else none.
 abbrev pub sound_width : ℕ → Option ℕ
 sound_width w = if leb 1 w && leb w 64 then Some w else None
 
--- A memory of depth 2 to the `b`, `b` from 1 to 12, has an index of `b` bits.
+-- The number of index bits of a memory whose depth is a power of two, if it is from 1 to the first number.
 abbrev pub bits_up_to : ℕ → ℕ → Option ℕ
 bits_up_to zero depth = None
 bits_up_to (suc b) depth = if eqb depth (2 ^ suc b) then Some (suc b) else bits_up_to b depth
@@ -40,7 +40,7 @@ register_width (Some (Register width)) = sound_width width
 register_width (Some (Memory width depth)) = None
 register_width (Some State) = None
 
--- `cell_width` is the width of a memory's cells, and another that of its index.
+-- The width of a memory's cells, and none of anything else.
 abbrev pub cell_width : Option Declared → Option ℕ
 cell_width None = None
 cell_width (Some (Input width)) = None
@@ -48,7 +48,7 @@ cell_width (Some (Register width)) = None
 cell_width (Some (Memory width depth)) = sound_width width
 cell_width (Some State) = None
 
--- The width of the index of what has a name, if it is a memory.
+-- The width of a memory's index, and none of anything else.
 abbrev pub index_width : Option Declared → Option ℕ
 index_width None = None
 index_width (Some (Input width)) = None
@@ -71,7 +71,7 @@ abbrev pub sliced : Option ℕ → ℕ → ℕ → Option ℕ
 sliced None high low = None
 sliced (Some w) high low = if leb low high && ltb high w then Some (high - low + 1) else None
 
--- Both widths together are at most 64.
+-- The sum of two widths, if both are there and it is at most 64.
 abbrev pub joined : Option ℕ → Option ℕ → Option ℕ
 joined None other = None
 joined (Some w) None = None
@@ -92,13 +92,13 @@ family Le = Comparison
 family Shl = Shift
 family Shr = Shift
 
--- `own_binary` is the width that two operands give of themselves.
+-- The own width of a binary operator's result, by the own widths of its operands.
 abbrev pub own_binary : Family → Option ℕ → Option ℕ → Option ℕ
 own_binary Arithmetic left right = else_of left right
 own_binary Shift left right = left
 own_binary Comparison left right = Some 1
 
--- Reductions give one bit.
+-- A unary operator is a reduction, which gives one bit.
 abbrev pub is_reduction : UnaryOperator → Bool
 is_reduction Not = false
 is_reduction Neg = false
@@ -120,7 +120,7 @@ abbrev mutual
   own what (concat spot parts) = own_parts what parts
   own what (zero_extend spot e width) = extended (own what e) width
 
-  -- `own_parts` is the width of parts one behind the other.
+  -- The sum of the own widths of the parts, if each has one and the sum is at most 64.
   pub own_parts : Lookup → Expressions → Option ℕ
   own_parts what no_part = Some 0
   own_parts what (and_part e parts) = joined (own what e) (own_parts what parts)
@@ -129,13 +129,13 @@ abbrev mutual
 abbrev pub width_of : Lookup → Expression → (asked : Option ℕ) → Option ℕ
 width_of what e asked = else_of (own what e) asked
 
--- `asked_left` is what an operator asks of its operands if the whole's width is this one.
+-- The width that is asked from the left operand of a binary operator.
 abbrev pub asked_left : Family → (whole left right : Option ℕ) → Option ℕ
 asked_left Arithmetic whole left right = whole
 asked_left Shift whole left right = whole
 asked_left Comparison whole left right = else_of left right
 
--- A shift count that has no own width is asked for 64 bits.
+-- The width that is asked from a shift count: 64 if it has no own width, else none.
 abbrev pub asked_count : Option ℕ → Option ℕ
 asked_count None = Some 64
 asked_count (Some w) = None

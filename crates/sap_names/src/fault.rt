@@ -12,7 +12,7 @@ use std::alloc::{AllocError, AllocFailed};
 use std::error::Error;
 use std::fmt;
 
-/// A code where it stands.
+/// A fault of a design: its code and its place.
 #[derive(Clone, Copy)]
 pub struct Fault {
     pub code: Code,

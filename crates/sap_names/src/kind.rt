@@ -38,9 +38,9 @@ pub enum Use {
 pub enum Family {
     /// Operands and result have one width.
     Arithmetic,
-    /// The left operand's.
+    /// The result has the left operand's width.
     Shift,
-    /// One bit.
+    /// The operands have one width, and the result has one bit.
     Comparison,
 }
 

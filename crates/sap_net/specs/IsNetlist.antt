@@ -42,11 +42,11 @@ readable n = readable_after (first_readable n) n.wires
 abbrev pub shapes : Net → Shapes
 shapes n = map (λ x. (x.name, (x.width, x.depth))) n.memories
 
--- `width_of` is the width of an input, register or wire.
+-- `width_of` is the width of an input, register or wire, and 0 for any other name.
 abbrev pub width_of : Net → Name → ℕ
 width_of n x = unwrap_or (find (readable n) x) 0
 
--- What a port shows is there.
+-- The net has the input, register or wire that a port of this kind and name shows.
 abbrev pub PortShows : Net → PortKind → Name → Type 0
 PortShows n kind.Input x = is_among x (input_names n) ≡ true
 PortShows n kind.Register x = is_among x (register_names n) ≡ true

@@ -20,7 +20,7 @@ AreSameRuns n = AllZip (AreSame n)
 abbrev pub SomeRun : Net → Type 0
 SomeRun n = (xss : List (List ℕ)) → AllFit n.inputs xss → (vs : List Valuation) × IsRun n xss vs
 
--- And no other.
+-- All runs on the same inputs have the same numbers.
 abbrev pub OneRun : Net → Type 0
 OneRun n = (xss : List (List ℕ)) (vs ws : List Valuation) → IsRun n xss vs → IsRun n xss ws → AreSameRuns n vs ws
 
@@ -36,13 +36,13 @@ SameBefore n None (Some q) = ⊥
 SameBefore n (Some p) None = ⊥
 SameBefore n (Some p) (Some q) = AreSame n p q
 
--- A cycle after each one whose numbers are within their widths, and a first one.
+-- There is a first cycle, and a cycle after each one whose numbers are within their widths, on all inputs that fit.
 abbrev pub SomeCycle : Net → Type 0
 SomeCycle n =
     (before : Option Valuation) (xs : List ℕ) → WithinBefore n before → InputsFit n.inputs xs
     → (v : Valuation) × IsCycle n before xs v
 
--- And no other.
+-- All cycles after the same one, or all first ones, on the same inputs have the same numbers.
 abbrev pub OneCycle : Net → Type 0
 OneCycle n =
     (p q : Option Valuation) (xs : List ℕ) (v w : Valuation) → SameBefore n p q → IsCycle n p xs v

@@ -8,9 +8,9 @@ use Rattle.sap_net.specs.declared.parts.Register.{Register}
 use Rattle.sap_net.specs.declared.parts.Memory.{Memory}
 use Rattle.sap_net.specs.declared.parts.Parts.{Parts}
 
--- `names` are all declared names but the clock's, in the order of declaration; `ports` and `inputs` stand in port
--- order, without the clock; `wires` in the order of their assigns; `registers` and `memories` in the order of
--- declaration.
+-- A netlist is a module's name and all that the module declares. `names` are all declared names but the clock's, in the
+-- order of declaration. `ports` and `inputs` are in port order, without the clock, and `wires` in the order of their
+-- assigns. `registers` and `memories` are in the order of declaration.
 pub record Net : Type 0 where
   pub module_name : Name
   pub names : List Name

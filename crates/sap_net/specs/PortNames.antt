@@ -5,27 +5,27 @@ use Rattle.std.specs.Fmt.{decimal}
 use Rattle.std.specs.Str.{byte}
 use Rattle.sap_maps.specs.Maps.{Name}
 
--- The value and the tag of an entity have these names, by its own.
+-- `v_x` is the name of the value of the input, register or memory x.
 abbrev pub value_name : Name → Name
 value_name x = codes "v_" ++ x
 
--- The name of the port that shows the tag of x.
+-- `t_x` is the name of the tag of the input, register, memory or state x.
 abbrev pub tag_name : Name → Name
 tag_name x = codes "t_" ++ x
 
--- The number of the current child of a state has this name, by the state's own, and that of the root another.
+-- `s_x` is the name of the register that holds the number of the current child of the state x.
 abbrev pub seat_name : Name → Name
 seat_name x = codes "s_" ++ x
 
--- The name of the register that holds the current state at the root.
+-- `s_0` is the name of the register that holds the number of the root's current child.
 abbrev pub root_seat : Name
 root_seat = codes "s_0"
 
--- One wire tells whether a site is refused, and another the level of its refusal.
+-- `c_k` is the name of the wire that shows whether check site k is refused.
 abbrev pub refused_name : ℕ → Name
 refused_name k = codes "c_" ++ decimal k
 
--- The name of the wire that shows the level of a refusal at site k.
+-- `l_k` is the name of the wire that shows the level of a refusal at check site k.
 abbrev pub refused_level_name : ℕ → Name
 refused_level_name k = codes "l_" ++ decimal k
 
@@ -33,7 +33,7 @@ refused_level_name k = codes "l_" ++ decimal k
 abbrev pub top_name : Name
 top_name = codes "top"
 
--- `x`, where the name is this letter, `_` and x, a byte or more.
+-- What follows the letter and `_` in a name that begins with them, if that is at least one byte.
 abbrev pub behind : (letter : ℕ) → Name → Option Name
 behind letter [] = None
 behind letter (a ∷ []) = None
@@ -48,7 +48,7 @@ value_of n = behind (byte "v") n
 abbrev pub tag_of : Name → Option Name
 tag_of n = behind (byte "t") n
 
--- There is such an x, and it passes a test.
+-- There is a name, and it passes the test.
 abbrev pub passes : (Name → Bool) → Option Name → Bool
 passes test None = false
 passes test (Some x) = test x

@@ -28,7 +28,7 @@ AreOperands readable w [] = w ≡ 0
 AreOperands readable w (o ∷ os) =
     (u : ℕ) × (r : ℕ) × IsWidth u × IsOperand readable u o × AreOperands readable r os × (w ≡ u + r)
 
--- The right side of a wire of width w.
+-- A right side suits a wire of width w: its operands can be read, and their widths are those that its form asks for.
 abbrev pub IsRight : (memories : Shapes) (readable : Scope) (w : ℕ) → Right → Type 0
 IsRight memories readable w (Copy a) = IsOperand readable w a
 IsRight memories readable w (One op a) = (u : ℕ) × IsWidth u × IsOperand readable u a × (w ≡ width1 op u)

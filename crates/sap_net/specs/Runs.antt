@@ -25,9 +25,9 @@ abbrev pub written : Valuation → Memory → (i : ℕ) → ℕ
 written v m i = if operand_value v m.enable == 1 && operand_value v m.index == i
     then operand_value v m.value else v.cell m.name i
 
--- What a cycle begins with. A memory's cells are counted on without end; those from its depth on keep their first
--- number and are never read. Registers and memories have their first numbers in the first cycle; in each later one a
--- register has its right side in the cycle before, and a memory what was written there.
+-- What registers and memories have as a cycle begins. In the first cycle they have their starts. In each later one a
+-- register has its next operand's number in the cycle before, and a cell what was written to it there, or else its own
+-- number. Cells from a memory's depth on keep their start and are never read.
 abbrev pub Begins : Net → (before : Option Valuation) → Valuation → Type 0
 Begins n None v =
     AllByRecursion (λ r. v.value r.name ≡ r.start) n.registers
@@ -77,7 +77,8 @@ IsRun n xss vs = IsRunAfter n None xss vs
 abbrev pub AllFit : List Input → List (List ℕ) → Type 0
 AllFit is xss = AllByRecursion (InputsFit is) xss
 
--- What is seen of a cycle: inputs and wires before its edge, registers and memories after it.
+-- The number of a name as a cycle shows it: of a register, whose next operand is given, after the clock edge; of an
+-- input or a wire before it.
 abbrev pub value_after : Valuation → Name → Option Operand → ℕ
 value_after v x None = v.value x
 value_after v x (Some next) = operand_value v next
@@ -87,7 +88,7 @@ abbrev pub cell_after : Valuation → Name → (i : ℕ) → Option Memory → �
 cell_after v x i None = v.cell x i
 cell_after v x i (Some m) = written v m i
 
--- What stands after the clock edge of a cycle: each register its next number, each cell what was written.
+-- What is seen of a cycle: inputs and wires before its clock edge, registers and memories after it.
 abbrev pub observed : Net → Valuation → Valuation
 observed n v =
     record {

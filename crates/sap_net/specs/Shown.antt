@@ -20,20 +20,20 @@ is_register kind.Wire = false
 abbrev pub register_ports : List Port → List Name
 register_ports ps = map (λ p. p.name) (filter (λ p. is_register p.kind) ps)
 
--- And their widths.
+-- The `output reg` ports with their widths.
 abbrev pub port_widths : Net → Scope
 port_widths n = map (λ x. (x, width_of n x)) (register_ports n.ports)
 
--- A `t_x` of the width of tags is there.
+-- Among these names is a `t_x` that has the width of tags.
 abbrev pub has_tag : (tag : ℕ) → (widths : Scope) → Name → Bool
 has_tag tag widths x = is_number tag (find widths (tag_name x))
 
--- The name, where it has a tag beside it.
+-- The x of a `v_x`, if a `t_x` of the width of tags is there too, else none.
 abbrev pub shown_by : (tag : ℕ) → (widths : Scope) → Option Name → List Name
 shown_by tag widths None = []
 shown_by tag widths (Some x) = if has_tag tag widths x then x ∷ [] else []
 
--- Each x with a `v_x` among some names that has such a `t_x`, in order.
+-- Each x whose `v_x` is among some names, and whose `t_x` has the width of tags, in order.
 abbrev pub shown_among : (tag : ℕ) → (widths : Scope) → List Name → List Name
 shown_among tag widths [] = []
 shown_among tag widths (p ∷ ps) = shown_by tag widths (value_of p) ++ shown_among tag widths ps

@@ -14,7 +14,7 @@ abbrev pub operand_value : Valuation → Operand → ℕ
 operand_value v (Named x) = v.value x
 operand_value v (Constant w n) = n
 
--- `widths` has the width of each name.
+-- The width of an operand: that of the name, from `widths`, or the constant's.
 abbrev pub operand_width : (widths : Name → ℕ) → Operand → ℕ
 operand_width widths (Named x) = widths x
 operand_width widths (Constant w n) = w
@@ -24,7 +24,7 @@ abbrev pub operands_width : (widths : Name → ℕ) → List Operand → ℕ
 operands_width widths [] = 0
 operands_width widths (o ∷ os) = operand_width widths o + operands_width widths os
 
--- The operands stand one behind another, the foremost first.
+-- The number of a concatenation: its first operand has the highest bits.
 abbrev pub operands_value : (widths : Name → ℕ) → Valuation → List Operand → ℕ
 operands_value widths v [] = 0
 operands_value widths v (o ∷ os) = joined (operand_value v o) (operands_width widths os) (operands_value widths v os)

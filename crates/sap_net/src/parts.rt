@@ -38,6 +38,7 @@ pub struct Operands {
     list: Vec<Operand>,
 }
 
+// Operands are seen as their list.
 impl Model for Operands {
     ghost use Rattle.std.specs.Prelude.{List};
     ghost use Rattle.sap_net.specs.declared.parts.Operand.{Operand};

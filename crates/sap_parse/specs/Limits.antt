@@ -13,8 +13,8 @@ use Rattle.sap_tree.specs.Limits.{most_name_bytes, most_inputs, most_registers, 
 abbrev pub most_bytes : ℕ
 most_bytes = 1048576
 
--- The tokens so far begin so many declarations, states and commands; and the expression or tag expression that they
--- stand in, and that stands in no other, has so many tokens and open brackets.
+-- What the tokens so far count: how many inputs, registers, memories, states and commands they begin; and how many
+-- tokens and open brackets the outermost expression or tag expression has.
 pub record Counts : Type 0 where
   pub inputs : ℕ
   pub registers : ℕ
@@ -28,7 +28,8 @@ pub record Counts : Type 0 where
 abbrev pub none_yet : Counts
 none_yet = record { inputs = 0; registers = 0; memories = 0; states = 0; commands = 0; tokens = 0; brackets = 0 }
 
--- Between two expressions that stand in no other there is always a token that stands in none.
+-- The counts after a token outside of expressions: tokens and brackets are counted from 0 again. There is such a token
+-- between any two outermost expressions.
 abbrev pub outside : Counts → Counts
 outside c = record c { tokens = 0; brackets = 0 }
 
@@ -54,12 +55,12 @@ abbrev pub ◌or_else◌ : Option Limit → Option Limit → Option Limit
 (Some limit) or_else other = Some limit
 None or_else other = other
 
--- A name that is longer than a name may be breaks a limit.
+-- The limit on names, if the token is a name that is too long.
 abbrev pub breach_of_name : Kind → Option Limit
 breach_of_name (k.Name name) = above most_name_bytes (length name) l.Name
 breach_of_name _ = None
 
--- The limit on counts that a token in this role breaks, if it breaks one.
+-- The limit on counts and depths that a token in this role breaks, if it breaks one.
 abbrev pub breach_of_role : Counts → Role → Option Limit
 breach_of_role c r.Plain = None
 breach_of_role c r.Input = above most_inputs (c.inputs + 1) l.Inputs

@@ -55,7 +55,7 @@ abbrev pub front_place : List Token → Place
 front_place [] = record { line = 0; column = 0 }
 front_place (t ∷ ts) = t.place
 
--- `here` is the place of the token that stands here.
+-- The place of the first token that is left.
 abbrev pub here : Stage → Place
 here p = front_place p.left
 

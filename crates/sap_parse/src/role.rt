@@ -1,9 +1,9 @@
 //! What the tokens of a design are to the limits.
 
-/// What a token is to the limits.
+/// What a token counts as for the limits.
 #[derive(Clone, Copy)]
 pub enum Role {
-    /// It stands in no expression, and none of the next five is meant.
+    /// It is in no expression, and begins no declaration, state or command.
     Plain,
     /// It begins the declaration of an input.
     Input,

@@ -8,8 +8,8 @@ use Rattle.sap_shape.specs.Sites.{check_sites}
 use Rattle.sap_program.specs.declared.program.Program.{Program}
 use Rattle.sap_program.specs.Views.{program_in, names_in}
 
--- It is the program of the design over these levels, with the names of the design's entities and the number of its
--- check sites.
+-- The stored program is the program of the design over these levels, with the names of the design's entities and the
+-- number of its check sites.
 pub record IsProgramOf (ls : Levels) (d : DesignTree) (p : Program) : Type 0 where
   pub program : program_in (order_of ls) p ≡ program_of ls d
   pub names : names_in p ≡ map (λ e. e.name.name) (entities_of d)

@@ -3,7 +3,7 @@ use Rattle.std.specs.Prelude.{ℕ, Bool, true, List, [], ◌∷◌, nat_eq, nat_
 use Rattle.std.specs.List.{list_any}
 use Rattle.sap_resolved.specs.Fill.{table}
 
--- Each number of a list is above the one before it.
+-- The numbers of the list rise, and the first is above x.
 abbrev pub rises_from : ℕ → List ℕ → Bool
 rises_from x [] = true
 rises_from x (y ∷ ys) = nat_lt x y && rises_from y ys

@@ -51,7 +51,7 @@ term_of (number.Choose' p c q a r b) = choose (term_of c) (term_of a) (term_of b
 term_of (number.Join' p a q b) = join (term_of a) (term_of b)
 term_of (number.Part' p a hi lo) = part (term_of a) hi lo
 
--- The level's term that a stored tag stands for.
+-- The tag expression that a stored one stands for.
 abbrev pub level_of : TagOf → LevelTerm
 level_of (tag.Fixed l) = fixed l
 level_of (tag.Of e) = of (term_of e)
@@ -125,7 +125,7 @@ unfoldable pub group_of : (n : ℕ) → List State → Group
 group_of n [] = no_node
 group_of n (s ∷ ss) = and_node (state_of n s) (group_of n ss)
 
--- Where a body stands.
+-- The place of a body that a stored one stands for: its state, the parent and the children.
 abbrev pub home_of : (n : ℕ) → Home → checks.Home
 home_of n at = record { state = at.state; parent = at.parent; children = group_of n at.children.now }
 
@@ -151,7 +151,7 @@ entity_in p x = get_or (map entity_of p.entities.items) x program.nothing
 abbrev pub names_in : Program → List (List ℕ)
 names_in p = map (λ e. e.name) p.entities.items
 
--- Over levels of this order.
+-- The program that a stored program stands for, over levels of this order.
 abbrev pub program_in : Order → Program → program.Program
 program_in o p = record {
   world = record { order = o; entities = map entity_of p.entities.items; children = p.children.items };

@@ -39,19 +39,19 @@ entity kind width dynamic declared = record {
   initial = 0;
 }
 
--- Its entities.
+-- The adder has three entities: the input, the register and the state.
 abbrev pub Entities : Type 0
 Entities = (program_of low_high adder).world.entities
     ≡ entity program.input 8 true 0 ∷ entity program.register 8 true 0 ∷ entity (program.state 0 2) 0 false 1 ∷ []
 
--- Its states: the assignment is no check site, and the goto is site 1.
+-- The adder has one state, in which the assignment is no check site and the `goto` is site 1.
 abbrev pub States : Type 0
 States = (program_of low_high adder).states
     ≡ and_node (state_node 2
     (command_then (lone (assign 0 1 (term.two two.Add (term.read 0) (term.constant 8 1))))
     (command_then (lone (go_to 1 2)) end_block)) NoGroup) NoGroup
 
--- What hangs on the root's fall: the register.
+-- The root's fall touches the register alone.
 abbrev pub Hangs : Type 0
 Hangs = (program_of low_high adder).hang ≡ false ∷ true ∷ false ∷ []
 

@@ -24,7 +24,7 @@ filled_step w at (go_to site target) = go_to site target
 filled_step w at (fall_to_child site hang) =
     fall_to_child site (table (root w) (touches w at (lone (fall_to_child site hang))))
 
--- `filled_hang` has what depends on a command in the body of a state.
+-- The list of what a command in the body of a state touches.
 abbrev pub filled_hang : World → Home → Command → List Bool
 filled_hang w at c = table (root w) (touches w at c)
 
@@ -32,11 +32,11 @@ filled_hang w at c = table (root w) (touches w at c)
 abbrev pub filled : World → Home → Command → Command
 filled w at c = mapped (filled_step w at) (filled_hang w at) c
 
--- The arms of a `case`, with these lists.
+-- The arms of a `case`, with the list of what each command in them touches.
 abbrev pub filled_arms : World → Home → Arms → Arms
 filled_arms w at arms = mapped_arms (filled_step w at) (filled_hang w at) arms
 
--- A block with these lists.
+-- A block with the list of what each command in it touches.
 abbrev pub filled_block : World → Home → Block → Block
 filled_block w at b = mapped_block (filled_step w at) (filled_hang w at) b
 

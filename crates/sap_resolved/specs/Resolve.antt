@@ -15,7 +15,7 @@ use Rattle.sap_lattice.specs.Levels.{Levels}
 use Rattle.sap_resolved.specs.Worlds.{states_in}
 use Rattle.sap_resolved.specs.Terms.{entity_number, term_of, level_term}
 
--- `site_number` is the number of a command if the next site has the number `k`.
+-- `site_number` is the number of the site that a command is, if the next site has the number `k`; 0 if it is none.
 abbrev pub site_number : Surroundings → ℕ → SimpleCommand → ℕ
 site_number h k c = if is_site h.entities h.home.kind h.home.children c then k else 0
 
@@ -36,7 +36,7 @@ step_of ls h n (set_cell_tag place target index tag) =
 step_of ls h n (tree.go_to place target) = go_to n (entity_number h.entities target.name)
 step_of ls h n (tree.fall_to_child place) = fall_to_child n []
 
--- `number_of` has the numbers of constants.
+-- The number of a constant, with or without a width; 0 for any other expression.
 abbrev pub number_of : Expression → ℕ
 number_of (literal spot n) = n
 number_of (sized_literal spot width n) = n

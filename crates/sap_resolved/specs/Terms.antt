@@ -42,11 +42,11 @@ two_of binary.Add = two.Add
 two_of binary.Sub = two.Sub
 two_of binary.Mul = two.Mul
 
--- This number is there in every well-formed design.
+-- The number, which is there in every well-formed design, and 0 if there is none.
 abbrev pub known : Option ℕ → ℕ
 known n = unwrap_or n 0
 
--- A term is filled with zeros in front, from one width to another.
+-- A term with as many zeros in front as it lacks to a width; itself if it lacks none.
 abbrev pub widened : (from width : ℕ) → Term ℕ → Term ℕ
 widened from width t = if eqb from width then t else term.join (term.constant (width - from) 0) t
 

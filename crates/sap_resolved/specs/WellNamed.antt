@@ -14,14 +14,14 @@ WellNamedStep w (retag_cell site m j n) = (is_memory w m ≡ true) × FineTerm w
 WellNamedStep w (go_to site target) = (is_state w target ≡ true) × (target < root w)
 WellNamedStep w (fall_to_child site hang) = Unit {0}
 
--- What is asked of a command alone.
+-- The names of a command itself, without its blocks, are of the kinds that their places ask for.
 abbrev pub WellNamedCommand : World → Command → Type 0
 WellNamedCommand w c = Asks (WellNamedStep w) (FineTerm w) c
 
--- So are those of all steps in a state's body and in those of its descendants.
+-- The names in a state's body and in those of its descendants are of the kinds that their places ask for.
 abbrev pub WellNamedState : World → State → Type 0
 WellNamedState w t = EveryBody (EveryInBlock (WellNamedCommand w)) t
 
--- So are those of all steps in the bodies of a group's states and of their descendants.
+-- The names in the bodies of a group's states and of their descendants are of the kinds that their places ask for.
 abbrev pub WellNamedGroup : World → Group → Type 0
 WellNamedGroup w g = EveryBodyIn (EveryInBlock (WellNamedCommand w)) g

@@ -13,7 +13,7 @@ use Rattle.sap_lattice.specs.Levels.{Levels, level_named, order_of}
 use Rattle.sap_meaning.specs.Program.{World, Entity}
 use Rattle.sap_meaning.specs.Program as program
 
--- `level_number` is the number of a level's name, and the one behind the last for a name of none.
+-- `level_number` is the number of the level of this name, or the number of levels if there is none.
 abbrev pub level_number : Levels → Mention → ℕ
 level_number ls m = unwrap_or (level_named ls.names m.name) (length ls.names)
 
@@ -27,12 +27,12 @@ abbrev pub authority_level : Levels → Option Under → ℕ
 authority_level ls None = (order_of ls).bottom
 authority_level ls (Some under) = level_number ls under.level
 
--- The authority is the bottom if it isn't written.
+-- The authority of an entity of a kind; the bottom if it is dynamic or if no authority is written.
 abbrev pub authority_of : Levels → Kind → ℕ
 authority_of ls (Dynamic place) = (order_of ls).bottom
 authority_of ls (Enforced level under) = authority_level ls under
 
--- `a` register starts at its written number, else at 0.
+-- A register starts at its written number, else at 0.
 abbrev pub initial_of : Option Numeral → ℕ
 initial_of None = 0
 initial_of (Some n) = n.value

@@ -10,7 +10,7 @@ use Rattle.sap_meaning.specs.Agree.{High, StatesAgree, seen}
 use Rattle.sap_meaning.specs.Fine.{FineProgram, number_of, kids_of, Nth}
 use Rattle.sap_meaning.specs.Once.{reaches}
 
--- The parent of the group in which the way ends that begins below p and goes down through those states.
+-- The number of the last state of the way, or p if the way is empty: the parent of the state to which the way leads.
 abbrev pub last_parent : ℕ → (way : List State) → ℕ
 last_parent p [] = p
 last_parent p (t ∷ way) = last_parent (number_of t) way
@@ -55,11 +55,11 @@ is_fall (retag_cell site m j n) = false
 is_fall (go_to site target) = false
 is_fall (fall_to_child site hang) = true
 
--- A goto stands in it.
+-- Some step of the command is a `goto`.
 abbrev pub has_goto : Command → Bool
 has_goto c = some (λ k. is_goto k) c
 
--- A fall stands in it.
+-- Some step of the command is a `fall`.
 abbrev pub has_fall : Command → Bool
 has_fall c = some (λ k. is_fall k) c
 
@@ -77,33 +77,34 @@ abbrev pub SomeHigh : World → ℕ → Store → List State → Type 0
 SomeHigh w l s [] = ⊥
 SomeHigh w l s (t ∷ ts) = High w.order l (level w (own (number_of t)) s) ⊎ SomeHigh w l s ts
 
--- Of the state e with its children g: it is not dynamic where c has a goto, and its current child is no dynamic state
--- with a level at or below l where c has a fall.
+-- If c has a `goto`, the state e is not dynamic. If c has a `fall`, the current child of e among the children g is no
+-- dynamic state with a level at or below l.
 abbrev pub Guarded : World → ℕ → ℕ → Group → Command → Store → Type 0
 Guarded w l e g c s = (has_goto c ≡ true → is_dynamic w e ≡ false)
     × (has_fall c ≡ true → (t : State) → Nth g (child e s) t → is_dynamic w (number_of t) ≡ true
     → High w.order l (level w (own (number_of t)) s))
 
--- The conditions of confinement: the state e with its body b and children g is on the active path, behind the states of
--- `way`, and c stands in its body; neither the context nor any dynamic register or memory that c touches is at or below
--- l; and what the fields say of memories and of the states above.
+-- The conditions of confinement. The state e with the body b and the children g is on the active path, below the states
+-- of `way`, and c is in its body. Neither the context nor the level of any dynamic register or memory that c touches is
+-- at or below l. The last two fields ask for more of memories and of the states above.
 pub record Hidden (p : Program) (l : ℕ) (s : Store) (way : List State) (e : ℕ) (b : Block) (g : Group)
     (c : Command) (pc : ℕ) : Type 0 where
   pub holds : Holds p.world s
   pub active : Active (root p.world) p.states s way (state_node e b g)
   pub command : StandsInBlock c b
   pub context : High p.world.order l pc
-  -- .. and each dynamic register or memory that c touches, is not at or below l;
+  -- No dynamic register or memory that c touches has a level at or below l; of a memory its next part counts.
   pub touched : (x : ℕ) → (is_register p.world x || is_memory p.world x) ≡ true
       → touches p.world (record { state = e; parent = last_parent (root p.world) way; children = g }) c x ≡ true
       → High p.world.order l (s.level (level_slot p.world x))
-  -- each enforced memory that c writes, or a body that it may fall into, has equal parts;
+  -- Each enforced memory of which c writes or retags a cell, itself or in a body that it may fall into, has equal parts.
   pub parts : (m : ℕ) → is_memory p.world m ≡ true → is_dynamic p.world m ≡ false → reaches g c m ≡ true
       → EqualParts p.world m s
-  -- and the state or one above it is not at or below l, or its goto and its fall are guarded
+  -- The state or one above it is not at or below l, or its `goto` and its `fall` are guarded.
   pub above : SomeHigh p.world l s (state_node e b g ∷ way) ⊎ Guarded p.world l e g c s
 
--- Then what c does leaves a state that agrees at l with the one before, and nothing that is refused is at or below l.
+-- Under the conditions of `Hidden`, what c does leaves a state that agrees at l with the one before, and no refusal has
+-- a level at or below l.
 abbrev pub Confines : Program → Type 0
 Confines p = (l : ℕ) (s : Store) (way : List State) (e : ℕ) (b : Block) (g : Group) (c : Command) (pc : ℕ)
     → Hidden p l s way e b g c pc
@@ -118,6 +119,7 @@ Confines p = (l : ℕ) (s : Store) (way : List State) (e : ℕ) (b : Block) (g :
       children = g;
     }) (does_child p.world g e) c pc s).refused ≡ [])
 
--- So it is in every fine program.
+-- In each fine program, a command in a context that is not at or below l does nothing that shows at l, under the
+-- conditions of `Hidden`.
 abbrev pub Confinement : Type 0
 Confinement = (p : Program) → FineProgram p → Confines p

@@ -16,23 +16,23 @@ decided = try_then (assign 1 3 (constant 8 5)) []
     (command_then (try (assign 2 2 (constant 8 5)) [] (command_then (put_x 1) end_block)) end_block)
     (command_then (put_x 2) end_block)
 
--- The body of the first child: a fork whose parts each assign.
+-- The text `if (a == 1) { goto D; } else { goto C; }`, the body of C.
 abbrev pub body_c : Block
 body_c = fork 6 0 5 0
 
--- The body of the second child: a decided step, then a `goto` to itself.
+-- The body of D: the command `decided`, and then `goto D;`.
 abbrev pub body_d : Block
 body_d = command_then decided (command_then (lone (go_to 0 6)) end_block)
 
--- The two children of the parent.
+-- The children of P: C and D.
 abbrev pub states_below_p : Group
 states_below_p = and_node (state_node 5 body_c no_node) (and_node (state_node 6 body_d no_node) no_node)
 
--- The parent's body: it falls.
+-- The text `fall;`, the body of P.
 abbrev pub body_p : Block
 body_p = command_then (lone (fall_to_child 0 [])) end_block
 
--- The parent with its children.
+-- The state P with its body and its children.
 abbrev pub state_p : State
 state_p = state_node 4 body_p states_below_p
 
@@ -49,7 +49,7 @@ hiding = program_of two_levels
 abbrev pub EntersHigh : Type 0
 EntersHigh = shows hiding 1 ((high 1 ∷ []) ∷ (low 0 ∷ []) ∷ []) ≡ (low 0, []) ∷ (high 1, refused_at 2 1 ∷ []) ∷ []
 
--- P's current child is D; and C, D and x are at high.
+-- A state in which P's current child is D, and C, D and x are at high.
 abbrev pub before : Store
 before = put_child 4 1 (put_level hiding.world (own 1) 1
     (put_level hiding.world (own 5) 1 (put_level hiding.world (own 6) 1 (first hiding.world))))
@@ -59,8 +59,8 @@ abbrev pub after : After
 after = does hiding.world (record { state = 6; parent = 4; children = no_node })
     (does_child hiding.world no_node 6) decided 1 before
 
--- The conditions hold of it, at low. z and x, which are at high, are written, and y, which is at low, is not; the
--- refusal is told at high. So at low nothing is seen to change, and no refusal.
+-- The conditions of confinement hold of `decided`, at low. It writes z and x, which are at high, and not y, which is at
+-- low; its refusal is recorded at high. So at low nothing is seen to change, and no refusal.
 pub record HiddenAtLow : Type 0 where
   pub fine : FineProgram hiding
   pub premise : Hidden hiding 0 before (state_p ∷ []) 6 body_d no_node decided 1

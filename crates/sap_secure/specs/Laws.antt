@@ -25,11 +25,13 @@ abbrev pub LabelledAgree : Program → Type 0
 LabelledAgree p = (l : ℕ) (a b : List (List Tagged)) → StreamsAgree p.world.order l a b
     → RunsAgree p l (labelled_run p a) (labelled_run p b)
 
--- So it is in every fine program.
+-- In each fine program, from states between cycles that agree at a level, inputs that agree there give states and
+-- refusals that agree there.
 abbrev pub OneCycle : Type 0
 OneCycle = (p : Program) → FineProgram p → CyclesAgree p
 
--- In each fine program, runs from stores that agree below a level agree there later.
+-- In each fine program, from states between cycles that agree at a level, streams that agree there give runs that agree
+-- there in every cycle.
 abbrev pub LaterRunsAgree : Type 0
 LaterRunsAgree = (p : Program) → FineProgram p → LaterAgree p
 

@@ -21,11 +21,11 @@ is_transfer (fall_to_child place) = true
 abbrev pub transfer_faults : SimpleCommand → List Fault
 transfer_faults k = fault_if (is_transfer k) E10 (place_of k)
 
--- Of a `then` whose command is a transfer, E10 is at the `then`, and the command has no other; else its blocks count.
+-- The faults E10 of a command with `then`: if it is a transfer, one at the `then` alone, else those of its blocks.
 abbrev pub then_faults : SimpleCommand → (place : Place) → (blocks : List Fault) → List Fault
 then_faults k place blocks = if is_transfer k then fault_if true E10 place else blocks
 
--- A command that must be open: no transfer in it. This is what it has where its blocks have `below`.
+-- The faults E10 of a command that must be open, where its blocks have `below`.
 abbrev pub own_open : Command → (below : List Fault) → List Fault
 own_open (lone k) below = transfer_faults k
 own_open (try k place handler) below = transfer_faults k ++ below
@@ -33,27 +33,27 @@ own_open (if_else place condition then_block else_block) below = below
 own_open (try_then k place accepted refused) below = then_faults k place below
 own_open (case_of place e arms) below = below
 
--- The faults E10 of a command and of all commands in it, apart from those of how a body ends.
+-- The faults E10 of a command that must be open, and of all commands in it.
 abbrev pub open_faults : Command → List Fault
 open_faults c = folded [] ◌++◌ own_open c
 
--- Those of all commands of a block.
+-- The faults E10 of a block whose commands must be open.
 abbrev pub open_block_faults : CommandBlock → List Fault
 open_block_faults block = folded_in_block [] ◌++◌ own_open block
 
--- Those of all commands of an `else`, if there is one.
+-- The faults E10 of an `else`, if there is one, whose commands must be open.
 abbrev pub open_else_faults : ElseBlock → List Fault
 open_else_faults other = folded_in_else [] ◌++◌ own_open other
 
--- Those of all commands of the arms of a `case`.
+-- The faults E10 of the arms of a `case` whose commands must be open.
 abbrev pub open_arms_faults : Arms → List Fault
 open_arms_faults arms = folded_in_arms [] ◌++◌ own_open arms
 
--- Those of all commands of a list.
+-- The faults E10 of a list whose commands must be open.
 abbrev pub open_list_faults : CommandList → List Fault
 open_list_faults list = folded_in_list [] ◌++◌ own_open list
 
--- This is the last command of a list that must close; `after` is the place of the token after the list.
+-- A simple command that ends a list that must close has E10 at the token after the list if it is no transfer.
 abbrev pub last_simple_faults : SimpleCommand → (after : Place) → List Fault
 last_simple_faults k after = fault_if (not (is_transfer k)) E10 after
 
@@ -66,8 +66,9 @@ abbrev pub is_end : CommandList → Bool
 is_end no_command = true
 is_end (and_command c cs) = false
 
--- The faults E10 of a command that is the last of its list: it must be a transfer, or each of its blocks must end in
--- one.
+-- The faults E10 of the last command of a list that must close. Each block of an `if`, a `case` or a `then` must close,
+-- and so must the handler of a transfer. Without a `then`, a simple command that is no transfer is a fault itself, and
+-- its handler must be open.
 abbrev mutual
   pub last_faults : Command → (after : Place) → List Fault
   last_faults (lone k) after = last_simple_faults k after
@@ -88,10 +89,12 @@ abbrev mutual
   closing_arms_faults (last_arm b) = closing_faults b
   closing_arms_faults (and_arm constants b arms) = closing_faults b ++ closing_arms_faults arms
 
-  -- Of a list that must close every command but the last must be open.
+  -- The faults E10 of a block that must close.
   pub closing_faults : CommandBlock → List Fault
   closing_faults (command_block cs after) = closing_list_faults cs after
 
+  -- The faults E10 of a list that must close: every command but the last must be open, and an empty list has E10 at
+  -- the token after it.
   pub closing_list_faults : CommandList → (after : Place) → List Fault
   closing_list_faults no_command after = fault_if true E10 after
   closing_list_faults (and_command c cs) after =

@@ -14,9 +14,9 @@ use Rattle.sap_names.specs.declared.kind.Code.TheVariants.{E14}
 abbrev pub Path : Type 0
 Path = List SimpleCommand
 
--- Through a command: k, and for `k otherwise { h }` also k and then h, where k is refused; for an `if` a path through
--- either branch; for `k then { a } otherwise { b }` k and then a, or k and then b; for a `case` a path through any
--- one of its blocks.
+-- A path through a command. Through a simple command it is that command; through `k otherwise { h }` it is k, or k and
+-- then a path through h; through `k then { a } otherwise { b }` it is k and then a path through a or b. Through an `if`
+-- or a `case` it is a path through one of its blocks; a missing `else` is an empty block.
 abbrev mutual
   pub Through : Command → Path → Type 0
   Through (lone k) path = path ≡ k ∷ []
@@ -55,8 +55,8 @@ IsFall (set_cell_tag place target index tag) = ⊥
 IsFall (go_to place target) = ⊥
 IsFall (fall_to_child place) = Unit {0}
 
--- Up to a `fall` that enters a child. In `fall otherwise { h }` it is this one, or it is refused, has entered no
--- child, and the path goes on up to a `fall` in h. With `then` it goes on up to a `fall` in either block.
+-- A path through a command up to a `fall` that enters a child: the simple command itself, or one in a block of the
+-- command. A simple command before that block is on the path too; if it is a `fall`, it has entered no child.
 abbrev mutual
   pub UpToFall : Command → Path → Type 0
   UpToFall (lone k) path = IsFall k × (path ≡ k ∷ [])
@@ -90,7 +90,6 @@ abbrev mutual
 
 -- A path of one cycle from a state on: through its body, or up to a `fall` in it and on through a child.
 abbrev mutual
-  -- From a state on: through its body, or up to a `fall` in it and then from any of its children on.
   pub FromState : StateTree → Path → Type 0
   FromState (state_node place name kind body children) path =
       ThroughBlock body path ⊎ ((above : Path) × (below : Path) × UpToFallBlock body above
@@ -113,7 +112,7 @@ IsOfMemory (set_cell_tag place target index tag) memory = target.name ≡ memory
 IsOfMemory (go_to place target) memory = ⊥
 IsOfMemory (fall_to_child place) memory = ⊥
 
--- Some path comes to the command `again` behind another one of the same memory, `first`.
+-- Some path comes to the command `again` after another one, `first`, of the same memory.
 pub record WritesAgain (d : DesignTree) (again : SimpleCommand) : Type 0 where
   pub before : Path
   pub first : SimpleCommand
@@ -137,7 +136,7 @@ place_of (fall_to_child place) = place
 abbrev pub twice_at : Place → Fault
 twice_at p = record { code = E14; place = p }
 
--- E14 stands at the first token of such a command.
+-- E14 is at the first token of a command that some path comes to after another one of the same memory.
 abbrev pub PathFault : DesignTree → Fault → Type 0
 PathFault d f = (again : SimpleCommand) × WritesAgain d again × (f ≡ twice_at (place_of again))
 

@@ -15,7 +15,7 @@ use Rattle.sap_shape.specs.Sites.{is_site, is_dynamic}
 use Rattle.sap_names.specs.Fault.{StandsIn, Before}
 use Rattle.sap_shape.specs.Paths.{PathFault}
 
--- A body stands in its state, with the group that the state is of, and the names of the states above it.
+-- A body as the faults of shape see it: its state, the group of that state, and the names of the states above.
 pub record Body : Type 0 where
   pub home : Home
   pub group : StateList
@@ -39,7 +39,7 @@ abbrev mutual
   is_in_group no_state name = false
   is_in_group (and_state s rest) name = is_within s name || is_in_group rest name
 
--- This is one of the names.
+-- The name is on the list.
 abbrev pub is_in : List (List ℕ) → List ℕ → Bool
 is_in names name = list_any (λ n. bytes_eq n name) names
 
@@ -52,8 +52,8 @@ is_leaf (and_state s rest) = false
 abbrev pub is_comparable : Body → List ℕ → Bool
 is_comparable at name = bytes_eq at.home.name name || is_in at.above name || is_in_group at.home.children name
 
--- E11 is a target of a `goto` in another group, E12 a `fall` in a leaf, E16 a `setTag` of a dynamic entity, E17 a
--- `setTag` of a comparable state.
+-- The faults of shape of a simple command: E11 of a `goto` to another group, E12 of a `fall` in a leaf, E16 of a
+-- `setTag` of a dynamic entity, E17 of one of a comparable state.
 abbrev pub simple_shape : List Entity → Body → SimpleCommand → List Fault
 simple_shape es at (assign target e) = []
 simple_shape es at (write target index e) = []
@@ -63,13 +63,14 @@ simple_shape es at (set_cell_tag place target index tag) = fault_if (is_dynamic 
 simple_shape es at (go_to place target) = fault_if (not (is_among at.group target.name)) E11 target.place
 simple_shape es at (fall_to_child place) = fault_if (is_leaf at.home.children) E12 place
 
--- A command with `then`: E15 stands at the `then` where the command can't be refused. The `then` of a transfer has
--- E10, and no E15.
+-- The faults of shape of the simple command before a `then`, and E15 at the `then` if it can't be refused. A transfer
+-- has no E15 there, but an E10.
 abbrev pub then_shape : List Entity → Body → SimpleCommand → Place → List Fault
 then_shape es at k place =
     simple_shape es at k ++ fault_if (not (is_transfer k || is_site es at.home.kind at.home.children k)) E15 place
 
--- This is what a command has if its blocks have `below`; E15 is at an `otherwise` whose handler can never run.
+-- The faults E11, E12 and E15 to E17 of a command, where its blocks have `below`. E15 is at an `otherwise` whose
+-- handler can never run.
 abbrev pub own_shape : List Entity → Body → Command → (below : List Fault) → List Fault
 own_shape es at (lone k) below = simple_shape es at k
 own_shape es at (try k place handler) below =
@@ -78,27 +79,28 @@ own_shape es at (if_else place condition then_block else_block) below = below
 own_shape es at (try_then k place accepted refused) below = then_shape es at k place ++ below
 own_shape es at (case_of place e arms) below = below
 
--- The faults E11 to E17 of a command and of all commands in it.
+-- The faults E11, E12 and E15 to E17 of a command and of all commands in it.
 abbrev pub command_shape : List Entity → Body → Command → List Fault
 command_shape es at c = folded [] ◌++◌ (own_shape es at) c
 
--- Those of all commands of a block.
+-- The faults E11, E12 and E15 to E17 of all commands of a block.
 abbrev pub block_shape : List Entity → Body → CommandBlock → List Fault
 block_shape es at block = folded_in_block [] ◌++◌ (own_shape es at) block
 
--- Those of all commands of an `else`, if there is one.
+-- The faults E11, E12 and E15 to E17 of all commands of an `else`, if there is one.
 abbrev pub else_shape : List Entity → Body → ElseBlock → List Fault
 else_shape es at other = folded_in_else [] ◌++◌ (own_shape es at) other
 
--- Those of all commands of the arms of a `case`.
+-- The faults E11, E12 and E15 to E17 of all commands of the arms of a `case`.
 abbrev pub arms_shape : List Entity → Body → Arms → List Fault
 arms_shape es at arms = folded_in_arms [] ◌++◌ (own_shape es at) arms
 
--- Those of all commands of a list.
+-- The faults E11, E12 and E15 to E17 of all commands of a list.
 abbrev pub list_shape : List Entity → Body → CommandList → List Fault
 list_shape es at list = folded_in_list [] ◌++◌ (own_shape es at) list
 
--- These are the faults of a state of a group, and of a group, with the states above.
+-- The faults of shape, without E14, of a state and of all states below it, and of a list of states. `group` is the
+-- group that they are of, and `above` has the names of the states above.
 abbrev mutual
   pub state_shape : List Entity → (group : StateList) → (above : List (List ℕ)) → StateTree → List Fault
   state_shape es group above (state_node place name kind body children) =
@@ -114,7 +116,7 @@ abbrev mutual
   states_shape es group above no_state = []
   states_shape es group above (and_state s rest) = state_shape es group above s ++ states_shape es group above rest
 
--- Of a design: those of its states, and E14 where a path writes a memory again.
+-- A fault of shape of a design: one that its states have, or an E14.
 abbrev pub IsShapeFault : DesignTree → Fault → Type 0
 IsShapeFault d f = StandsIn f (states_shape (entities_of d) d.states [] d.states) ⊎ PathFault d f
 
@@ -122,6 +124,6 @@ IsShapeFault d f = StandsIn f (states_shape (entities_of d) d.states [] d.states
 abbrev pub HasShape : DesignTree → Type 0
 HasShape d = (f : Fault) → IsShapeFault d f → ⊥
 
--- It stands, and before all others.
+-- It is a fault of shape, and comes before all others.
 abbrev pub IsFirstShapeFault : DesignTree → Fault → Type 0
 IsFirstShapeFault d f = IsShapeFault d f × ((other : Fault) → IsShapeFault d other → Before f other)

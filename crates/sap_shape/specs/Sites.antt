@@ -9,7 +9,7 @@ use Rattle.sap_tree.specs.Touches.{Home, home_of, is_dynamic_kind}
 use Rattle.sap_names.specs.declared.entity.Entity.{Entity}
 use Rattle.sap_names.specs.Entities.{find, enforced_of, dynamic_of, entities_of}
 
--- What the name stands for is enforced, or is dynamic.
+-- The entity of this name is enforced.
 abbrev pub is_enforced : List Entity → List ℕ → Bool
 is_enforced es name = enforced_of (find es name)
 
@@ -35,7 +35,7 @@ is_site es here children (set_cell_tag place target index tag) = true
 is_site es here children (go_to place target) = not (is_dynamic_kind here) || is_enforced es target.name
 is_site es here children (fall_to_child place) = any_enforced children
 
--- A command stands among the entities of its design, in the body of a state.
+-- What surrounds a command: the entities of its design, and the state in whose body it stands.
 pub record Surroundings : Type 0 where
   pub entities : List Entity
   pub home : Home
@@ -45,7 +45,7 @@ pub record CheckSite : Type 0 where
   pub surroundings : Surroundings
   pub command : SimpleCommand
 
--- A step by itself is a check site, or none.
+-- The check site that a simple command is, if it is one.
 abbrev pub simple_sites : Surroundings → SimpleCommand → List CheckSite
 simple_sites h k = let s : CheckSite = record { surroundings = h; command = k } in
     if is_site h.entities h.home.kind h.home.children k then s ∷ [] else []
@@ -54,31 +54,31 @@ simple_sites h k = let s : CheckSite = record { surroundings = h; command = k } 
 abbrev pub command_sites : Surroundings → Command → List CheckSite
 command_sites h c = gathered [] ◌++◌ (simple_sites h) c
 
--- Those of all commands of a block.
+-- The check sites of all commands of a block, in the order of the text.
 abbrev pub block_sites : Surroundings → CommandBlock → List CheckSite
 block_sites h block = gathered_in_block [] ◌++◌ (simple_sites h) block
 
--- Those of all commands of an `else`, if there is one.
+-- The check sites of all commands of an `else`, if there is one.
 abbrev pub else_sites : Surroundings → ElseBlock → List CheckSite
 else_sites h other = gathered_in_else [] ◌++◌ (simple_sites h) other
 
--- Those of all commands of the arms of a `case`.
+-- The check sites of all commands of the arms of a `case`.
 abbrev pub arms_sites : Surroundings → Arms → List CheckSite
 arms_sites h arms = gathered_in_arms [] ◌++◌ (simple_sites h) arms
 
--- Those of all commands of a list.
+-- The check sites of all commands of a list.
 abbrev pub list_sites : Surroundings → CommandList → List CheckSite
 list_sites h list = gathered_in_list [] ◌++◌ (simple_sites h) list
 
--- Those of a body stand before those of the children.
+-- The check sites of a state's own body, without those of its children.
 abbrev pub body_sites : List Entity → StateTree → List CheckSite
 body_sites es s = block_sites (record { entities = es; home = home_of s }) (body_of s)
 
--- Those of a state's body and of its descendants' bodies.
+-- The check sites of a state's body, and then those of the states below it.
 abbrev pub state_sites : List Entity → StateTree → List CheckSite
 state_sites es s = gathered_from [] ◌++◌ (body_sites es) s
 
--- Those of the bodies of these states and of their descendants.
+-- The check sites of these states and of all states below them, in the order of the text.
 abbrev pub states_sites : List Entity → StateList → List CheckSite
 states_sites es states = gathered_from_list [] ◌++◌ (body_sites es) states
 

@@ -37,7 +37,7 @@ abbrev mutual
   tag_part_nodes no_tag = 0
   tag_part_nodes (and_tag x parts) = tag_nodes x + tag_part_nodes parts
 
--- What stands in a command that can have a handler.
+-- The nodes of the expressions and tag expressions of a simple command.
 abbrev pub operand_nodes : SimpleCommand → ℕ
 operand_nodes (assign register x) = expression_nodes x
 operand_nodes (write memory index x) = expression_nodes index + expression_nodes x
@@ -46,12 +46,12 @@ operand_nodes (set_cell_tag place memory index n) = expression_nodes index + tag
 operand_nodes (go_to place target) = 0
 operand_nodes (fall_to_child place) = 0
 
--- Those of the arms' constants.
+-- The nodes of the constants of the arms of a `case`.
 abbrev pub constant_nodes : Arms → ℕ
 constant_nodes (last_arm block) = 0
 constant_nodes (and_arm constants block arms) = part_nodes constants + constant_nodes arms
 
--- Those of a command where its blocks have so many.
+-- The nodes of a command: itself, its expressions and tag expressions, and the `below` nodes of its blocks.
 abbrev pub own_nodes : Command → (below : ℕ) → ℕ
 own_nodes (lone c) below = 1 + operand_nodes c
 own_nodes (try c place handler) below = 1 + operand_nodes c + below
@@ -71,7 +71,7 @@ block_nodes block = folded_in_block 0 ◌+◌ own_nodes block
 abbrev pub else_nodes : ElseBlock → ℕ
 else_nodes other = folded_in_else 0 ◌+◌ own_nodes other
 
--- Those of the arms' blocks.
+-- The nodes of the blocks of the arms of a `case`.
 abbrev pub arms_nodes : Arms → ℕ
 arms_nodes arms = folded_in_arms 0 ◌+◌ own_nodes arms
 
@@ -91,6 +91,6 @@ states_nodes states = gathered_from_list 0 ◌+◌ (λ s. 1 + block_nodes (body_
 abbrev pub design_nodes : DesignTree → ℕ
 design_nodes d = states_nodes d.states
 
--- Its inputs, registers, memories and states.
+-- How many inputs, registers, memories and states a design has.
 abbrev pub entity_count : DesignTree → ℕ
 entity_count d = length d.declarations + states_count d.states

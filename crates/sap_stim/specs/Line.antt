@@ -27,7 +27,7 @@ abbrev pub pieces_of : List ℕ → List (List ℕ)
 pieces_of [] = []
 pieces_of (b ∷ bs) = split_at (byte " ") (b ∷ bs)
 
--- Begins with `*`.
+-- The piece begins with `*`.
 abbrev pub is_starred : List ℕ → Bool
 is_starred [] = false
 is_starred (b ∷ bs) = b == byte "*"
@@ -48,7 +48,7 @@ count_in [] = None
 count_in (piece ∷ []) = if is_starred piece then Some piece else None
 count_in (piece ∷ (next ∷ pieces)) = count_in (next ∷ pieces)
 
--- The first fault, else what follows.
+-- What `f` gives for a value; a fault stays the fault.
 abbrev pub and_then : {A B : Type 0} → Result A StimCode → (A → Result B StimCode) → Result B StimCode
 and_then (Ok x) f = f x
 and_then (Err code) f = Err code
@@ -63,7 +63,7 @@ value_of width text =
     if not (is_value text) then Err S1
     else (if nat_lt (digits_value 10 text) (2 ^ width) then Ok (digits_value 10 text) else Err S2)
 
--- S3 where the level is none.
+-- The value with its level, or S3 if the name is that of no level.
 abbrev pub with_level : (value : ℕ) → Option ℕ → Result Given StimCode
 with_level value None = Err S3
 with_level value (Some level) = Ok (record { number = value; level = level })
@@ -86,7 +86,7 @@ abbrev pub field_of : Levels → Field → List ℕ → Result Given StimCode
 field_of ls (Tagged width) text = tagged_of ls width text
 field_of ls (Plain width) text = plain_of ls width text
 
--- The fields from the left; S4 where their number is another.
+-- What the fields of a line are read as, or the first fault of one, from the left; S4 if they are too few or too many.
 abbrev pub inputs_of : Levels → List Field → List (List ℕ) → Result (List Given) StimCode
 inputs_of ls [] [] = Ok []
 inputs_of ls [] (text ∷ texts) = Err S4
@@ -100,15 +100,15 @@ is_count digits =
     list_all is_ascii_digit digits && nat_le 1 (length digits) && nat_le (length digits) 5
     && nat_le 1 (digits_value 10 digits) && nat_le (digits_value 10 digits) 65535
 
--- For how many cycles a line stands: without a count for one; with a count for its number, which is behind the `*`;
--- else S6.
+-- For how many cycles a line stands: 1 if it has no count, else the number after the `*` of its count; S6 if that isn't
+-- in form.
 abbrev pub count_of : Option (List ℕ) → Result ℕ StimCode
 count_of None = Ok 1
 count_of (Some piece) =
     if is_count (drop 1 piece) then Ok (digits_value 10 (drop 1 piece)) else Err S6
 
--- A line without its LF: first its length, which is at most 65,536 bytes, then S5 where it has no LF, then S4, then its
--- fields, then its count.
+-- What a line without its LF gives, or its first fault. In order, these are S1 if it has more than 65,536 bytes, S5 if
+-- it has no LF, S4 if it has too few or too many fields, the faults of the fields, and S6.
 abbrev pub line_of : Levels → List Field → (ended : Bool) → List ℕ → Result Span StimCode
 line_of ls fs ended text =
     if nat_lt 65536 (length text) then Err S1

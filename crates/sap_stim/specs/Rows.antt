@@ -6,7 +6,7 @@ use Rattle.sap_lattice.specs.Closure.{name_at}
 use Rattle.sap_lattice.specs.Codes.{code_of}
 use Rattle.sap_lattice.specs.Levels.{Levels, order_of, numbers}
 
--- A register with its value and its tag; the level is the name of that whose code is the tag.
+-- A register in a row: its name, its value, its tag, and the name of the level whose code the tag is, if there is one.
 pub record Shown : Type 0 where
   pub name : List ℕ
   pub value : ℕ

@@ -14,15 +14,15 @@ abbrev pub is_empty : List ℕ → Bool
 is_empty [] = true
 is_empty (b ∷ bs) = false
 
--- A file gives the cycles of the lines before the first refused one, and that one's number, from 1, with its code.
+-- The cycles of a line, and then what the lines after it give.
 abbrev pub ahead : Span → Parsed → Parsed
 ahead line p = record { stream = cycles_in line ++ p.stream; fault = p.fault }
 
--- Nothing is read, up to a fault.
+-- What a refused line gives: no cycles, and its number and code as the fault.
 abbrev pub stopped : (line : ℕ) → StimCode → Parsed
 stopped line code = record { stream = []; fault = Some (record { line = line; code = code }) }
 
--- Nothing is read, to the end.
+-- What the end of a file gives: no cycles and no fault.
 abbrev pub finished : Parsed
 finished = record { stream = []; fault = None }
 
@@ -31,8 +31,8 @@ abbrev pub going_on : (line : ℕ) → Result Span StimCode → Parsed → Parse
 going_on line (Ok span) rest = ahead span rest
 going_on line (Err code) rest = stopped line code
 
--- The pieces between the LFs, the first of them being this line; what is behind the last LF is a line without one,
--- unless it is empty.
+-- What the lines give from this one on, up to the first that is refused. A piece is what is between two LFs. The last
+-- has no LF after it: if it isn't empty, it is a line without one.
 abbrev pub read_pieces : Levels → List Field → (line : ℕ) → List (List ℕ) → Parsed
 read_pieces ls fs line [] = finished
 read_pieces ls fs line (text ∷ []) =

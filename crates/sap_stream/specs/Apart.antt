@@ -39,7 +39,7 @@ abbrev pub IsApart : Order → ℕ → List (List Tagged) → List (List Tagged)
 IsApart o l first second (Lengths a b) = (a ≡ length first) × (b ≡ length second) × (a ≢ b)
 IsApart o l first second (At cycle input) = IsApartAt o l first second cycle input
 
--- Every cycle of both streams has as many inputs.
+-- All cycles of both streams have the same number of inputs.
 abbrev pub AreOfOneLength : List (List Tagged) → List (List Tagged) → Type 0
 AreOfOneLength first second =
     (count : ℕ) × All (λ inputs. length inputs ≡ count) first × All (λ inputs. length inputs ≡ count) second

@@ -7,12 +7,12 @@ abbrev pub better : {A : Type 0} → (A → A → Bool) → Option A → A → O
 better comes_first None b = Some b
 better comes_first (Some a) b = if comes_first a b then Some a else Some b
 
--- The first of o and those.
+-- The first of `o` and the elements of the list.
 unfoldable pub best_of : {A : Type 0} → (A → A → Bool) → Option A → List A → Option A
 best_of comes_first o [] = o
 best_of comes_first o (x ∷ xs) = best_of comes_first (better comes_first o x) xs
 
--- A value is one of a list's.
+-- The value is an element of the list.
 abbrev pub StandsIn : {A : Type 0} → A → List A → Type 0
 StandsIn a [] = ⊥
 StandsIn a (x ∷ xs) = (a ≡ x) ⊎ StandsIn a xs

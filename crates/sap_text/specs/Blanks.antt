@@ -2,14 +2,14 @@
 use Rattle.std.specs.Prelude.{ℕ, List, Bool, not, ◌||◌, ◌&&◌, ◌==◌, slice_index}
 use Rattle.std.specs.Str.{byte}
 
--- Space, tab, and the end of a line in either form are blank.
+-- Space, tab, CR and LF are blank.
 abbrev pub is_blank : ℕ → Bool
 is_blank b = b == 32 || b == 9 || b == 13 || b == 10
 
--- `a` comment begins with two slashes.
+-- A comment begins with two slashes.
 abbrev pub is_comment : List ℕ → Bool
 is_comment bytes = slice_index bytes 0 == byte "/" && slice_index bytes 1 == byte "/"
 
--- `a` comment goes on to the end of its line.
+-- A comment goes on up to the next LF, which is no part of it.
 abbrev pub is_in_line : ℕ → Bool
 is_in_line b = not (b == 10)

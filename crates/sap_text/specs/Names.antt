@@ -17,7 +17,7 @@ abbrev pub is_word : List ℕ → Bool
 is_word [] = false
 is_word (c ∷ cs) = is_initial c && list_all is_inner cs
 
--- The name stands on the list.
+-- The name is on the list.
 abbrev pub is_among : List ℕ → List (List ℕ) → Bool
 is_among x ys = list_any (bytes_eq x) ys
 

@@ -15,12 +15,12 @@ line text = text ++ line_end
 abbrev pub place_text : Place → List ℕ
 place_text place = decimal place.line ++ codes ":" ++ decimal place.column
 
--- `next_place` is the place behind a byte.
+-- The place after a byte at this place: LF begins a line, and each other byte takes one column.
 abbrev pub next_place : Place → ℕ → Place
 next_place place b = if b == 10 then record { line = place.line + 1; column = 1 }
     else record { line = place.line; column = place.column + 1 }
 
--- `place_after` is the place behind these bytes.
+-- The place after bytes that begin at this place.
 abbrev pub place_after : Place → List ℕ → Place
 place_after place [] = place
 place_after place (b ∷ bytes) = place_after (next_place place b) bytes
@@ -29,6 +29,6 @@ place_after place (b ∷ bytes) = place_after (next_place place b) bytes
 abbrev pub first_place : Place
 first_place = record { line = 1; column = 1 }
 
--- `place_at` is the place of the byte behind the first n bytes of a text.
+-- The place just after the first n bytes of a text.
 unfoldable pub place_at : List ℕ → ℕ → Place
 place_at text n = place_after first_place (take n text)

@@ -8,7 +8,7 @@ use Rattle.sap_text.specs.Names.{is_inner}
 use Rattle.sap_text.specs.declared.scan.Class.TheVariants as c
 use Rattle.sap_text.specs.declared.scan.Class.{Class}
 
--- The classes of bytes are those within a name, digits of either base, and all but the end of a line.
+-- A byte is of a class: within a name, a decimal digit, a hexadecimal digit, or any byte but LF.
 abbrev pub is_in : Class → ℕ → Bool
 is_in c.Inner b = is_inner b
 is_in c.Decimal b = is_ascii_digit b

@@ -142,6 +142,7 @@ pub struct Name {
     text: Text,
 }
 
+// A name is seen as the list of its bytes.
 impl Model for Name {
     ghost use Rattle.std.specs.Prelude.{ℕ, List};
     ghost use Rattle.sap_text.specs.NameTexts.{text_bytes};

@@ -6,7 +6,7 @@ ghost use Rattle.sap_text.specs.Blanks.{is_blank, is_comment};
 ghost use Rattle.sap_text.specs.Names.{is_initial};
 ghost use Rattle.sap_text.specs.Runs.{is_in, number_of, run};
 
-/// Kinds of bytes that stand in a row.
+/// A class of bytes. A lexer takes as many bytes of one class as follow one another.
 #[derive(Clone, Copy)]
 pub enum Class {
     /// What a name goes on with.

@@ -33,11 +33,11 @@ most_commands = 4096
 abbrev pub most_blocks : ℕ
 most_blocks = 64
 
--- At most this many brackets are open at once in an expression that stands in no other.
+-- At most this many brackets are open at once in an outermost expression or tag expression.
 abbrev pub most_brackets : ℕ
 most_brackets = 64
 
--- An expression that stands in no other has at most this many tokens.
+-- An outermost expression or tag expression has at most this many tokens.
 abbrev pub most_tokens : ℕ
 most_tokens = 256
 

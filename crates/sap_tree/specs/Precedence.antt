@@ -5,7 +5,7 @@ use Rattle.sap_tree.specs.Syntax.{Expression, literal, sized_literal, variable, 
 use Rattle.sap_tree.specs.declared.syntax.BinaryOperator.TheVariants as b
 use Rattle.sap_tree.specs.declared.syntax.BinaryOperator.{BinaryOperator}
 
--- The operator `?:` binds most loosely, with 0.
+-- How tightly a binary operator binds: from 1, the loosest, to 8, the tightest.
 abbrev pub precedence : BinaryOperator → ℕ
 precedence b.Or = 1
 precedence b.Xor = 2

@@ -3,7 +3,7 @@ use Rattle.sap_tree.specs.Syntax.{Expression, literal, sized_literal, variable, 
 use Rattle.sap_text.specs.declared.place.Place.{Place}
 use Rattle.sap_tree.specs.declared.place.Spot.{Spot}
 
--- The two places of an expression: of its first token, and of the token that faults name.
+-- The two places of an expression: of its first token, the parentheses around it included, and of its own token.
 unfoldable pub spot_of : Expression → Spot
 spot_of (literal spot n) = spot
 spot_of (sized_literal spot w n) = spot
@@ -21,7 +21,7 @@ unfoldable pub first_of : Expression → Place
 unfolding spot_of
 first_of x = (spot_of x).first
 
--- The same expression, but its first token is at another place, as that of an opening parenthesis.
+-- The spot of an expression in parentheses that begin at this place, from the spot that it has without them.
 abbrev pub from_place : Place → Spot → Spot
 from_place place spot = record { first = place; at = spot.at }
 

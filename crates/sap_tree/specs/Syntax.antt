@@ -12,7 +12,7 @@ use Rattle.sap_tree.specs.declared.syntax.UnaryOperator.{UnaryOperator}
 use Rattle.sap_tree.specs.declared.version.Version.{Version}
 
 mutual
-  -- An expression as it is written, with the place of each part.
+  -- The tree of an expression. Parentheses around it show only in the first place of its `Spot`.
   pub data Expression : Type 0 where
     literal : Spot → (value : ℕ) → Expression
     sized_literal : Spot → (width value : ℕ) → Expression
@@ -32,7 +32,8 @@ mutual
 
 -- the places are those of the words `tag`, `level` and `join`
 mutual
-  -- An expression of a level: a level's name, the tag of an expression, the level at a place, or a join of several.
+  -- A tag expression: a level's name, the tag of an expression, the level at the place that an expression gives, or a
+  -- join of several.
   pub data TagExpression : Type 0 where
     level_of : Mention → TagExpression
     tag_at : Place → Expression → TagExpression

@@ -47,19 +47,19 @@ simple_assigns (fall_to_child place) x = false
 unfoldable pub assigns : Command → List ℕ → Bool
 assigns c x = some (λ k. simple_assigns k x) c
 
--- A command of this block does so.
+-- A command of this block assigns or writes the register or memory of this name.
 unfoldable pub block_assigns : CommandBlock → List ℕ → Bool
 block_assigns block x = some_in_block (λ k. simple_assigns k x) block
 
--- A command of this `else` does so.
+-- A command of this `else` assigns or writes the register or memory of this name.
 unfoldable pub else_assigns : ElseBlock → List ℕ → Bool
 else_assigns other x = some_in_else (λ k. simple_assigns k x) other
 
--- A command of these arms does so.
+-- A command of these arms assigns or writes the register or memory of this name.
 unfoldable pub arms_assign : Arms → List ℕ → Bool
 arms_assign arms x = some_in_arms (λ k. simple_assigns k x) arms
 
--- A command of this list does so.
+-- A command of this list assigns or writes the register or memory of this name.
 unfoldable pub list_assigns : CommandList → List ℕ → Bool
 list_assigns list x = some_in_list (λ k. simple_assigns k x) list
 
@@ -67,7 +67,7 @@ list_assigns list x = some_in_list (λ k. simple_assigns k x) list
 unfoldable pub state_assigns : StateTree → List ℕ → Bool
 state_assigns s x = gathered_from false ◌||◌ (λ s. block_assigns (body_of s) x) s
 
--- A command in the bodies of these states or of their descendants does so.
+-- A command in the bodies of these states or of their descendants assigns or writes what has this name.
 unfoldable pub states_assign : StateList → List ℕ → Bool
 states_assign states x = gathered_from_list false ◌||◌ (λ s. block_assigns (body_of s) x) states
 
@@ -101,22 +101,22 @@ simple_touches declarations home (fall_to_child place) x = fall_touches declarat
 unfoldable pub touches : List Decl → Home → Command → List ℕ → Bool
 touches declarations home c x = some (λ k. simple_touches declarations home k x) c
 
--- A command of this block does so.
+-- A command of this block touches the entity of this name.
 unfoldable pub block_touches : List Decl → Home → CommandBlock → List ℕ → Bool
 block_touches declarations home block x = some_in_block (λ k. simple_touches declarations home k x) block
 
--- A command of this `else` does so.
+-- A command of this `else` touches the entity of this name.
 unfoldable pub else_touches : List Decl → Home → ElseBlock → List ℕ → Bool
 else_touches declarations home other x = some_in_else (λ k. simple_touches declarations home k x) other
 
--- A command of these arms does so.
+-- A command of these arms touches the entity of this name.
 unfoldable pub arms_touch : List Decl → Home → Arms → List ℕ → Bool
 arms_touch declarations home arms x = some_in_arms (λ k. simple_touches declarations home k x) arms
 
--- A command of this list does so.
+-- A command of this list touches the entity of this name.
 unfoldable pub list_touches : List Decl → Home → CommandList → List ℕ → Bool
 list_touches declarations home list x = some_in_list (λ k. simple_touches declarations home k x) list
 
--- The root's fall.
+-- The root's `fall` touches the entity of this name.
 abbrev pub root_touches : DesignTree → List ℕ → Bool
 root_touches design x = fall_touches design.declarations design.states x

@@ -33,7 +33,7 @@ module _ (P : SimpleCommand → Type 0) (Q : (asked : Option ℕ) → Expression
 -- A fold: `own c below` is what a command has where its blocks have `below`, which is what their commands have,
 -- joined in the order of the text, or `none`.
 module _ {A : Type 0} (none : A) (join : A → A → A) (own : Command → (below : A) → A) where
-  -- A value made from a command from below: `own` of the command and of what its blocks give, joined in order.
+  -- What `own` makes of a command and of what the commands in its blocks have, joined in the order of the text.
   abbrev mutual
     pub folded : Command → A
     folded (lone c) = own (lone c) none
@@ -117,7 +117,7 @@ body_of (state_node place name kind body children) = body
 
 -- This is a fold over states: `own s below` is what a state has if its children have `below`.
 module _ {A : Type 0} (none : A) (join : A → A → A) (own : StateTree → (below : A) → A) where
-  -- A value made from a state from below: `own` of the state and of what its children give, joined in order.
+  -- What `own` makes of a state and of what its children have, joined in the order of the text.
   abbrev mutual
     pub folded_from : StateTree → A
     folded_from (state_node place name kind body children) =

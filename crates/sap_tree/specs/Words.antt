@@ -8,7 +8,7 @@ use Rattle.sap_tree.specs.declared.version.Version.{Version}
 use Rattle.sap_tree.specs.declared.word.Word.TheVariants as w
 use Rattle.sap_tree.specs.declared.word.Word.{Word}
 
--- Words are spelled so.
+-- The bytes by which a word is spelled.
 abbrev pub word_text : Word → List ℕ
 word_text w.Input = codes "input"
 word_text w.Reg = codes "reg"
@@ -32,13 +32,13 @@ word_text w.Case = codes "case"
 word_text w.Sapper = codes "sapper"
 word_text w.Two = codes "2"
 
--- These words are keywords in every version; others are from the second version on.
+-- The words that are keywords in every version.
 abbrev pub first_words : List Word
 first_words = w.Input ∷ w.Reg ∷ w.Mem ∷ w.State ∷ w.Dynamic ∷ w.Enforced ∷ w.Under ∷ w.If ∷ w.Else
     ∷ w.Goto ∷ w.Fall ∷ w.SetTag
     ∷ w.Otherwise ∷ w.Tag ∷ w.Level ∷ w.Join ∷ w.Zext ∷ []
 
--- The words that version 2 has more than version 1.
+-- The words that are keywords in version 2 alone.
 abbrev pub later_words : List Word
 later_words = w.Then ∷ w.Case ∷ []
 

@@ -3,7 +3,7 @@
 use crate::place::Place;
 pub use sap_text::name::Name;
 
-/// A name where it stands.
+/// A name, and the place where it is written.
 #[derive(Debug, Drop)]
 pub struct Mention {
     pub place: Place,

@@ -52,7 +52,7 @@ impl BinaryOperator {
     }
 }
 
-/// A number where it stands.
+/// A number, and the place where it is written.
 #[derive(Clone, Copy, PartialEq, Eq, Debug)]
 pub struct Numeral {
     pub place: Place,

@@ -7,7 +7,7 @@ use Rattle.sap_net.specs.IsNetlist.{register_names, memory_names}
 use Rattle.sap_net.specs.declared.parts.Wire.{Wire}
 unfoldable pub use Rattle.sap_share.specs.Names.{helper}
 
--- The first names, in order.
+-- The names of the first k helping wires, in order.
 abbrev pub numbered : ℕ → List Name
 numbered zero = []
 numbered (suc k) = numbered k ++ helper k ∷ []
@@ -24,7 +24,7 @@ lasting_names n = port_names n ++ (register_names n ++ memory_names n)
 abbrev pub shown_wires : Net → List Wire
 shown_wires n = filter (λ w. is_among w.name (port_names n)) n.wires
 
--- The wires that are none.
+-- The wires that are no ports.
 abbrev pub helping_wires : Net → List Wire
 helping_wires n = filter (λ w. not (is_among w.name (port_names n))) n.wires
 

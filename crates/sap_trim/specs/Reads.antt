@@ -45,7 +45,7 @@ abbrev pub memory_reads : List Memory → List Name
 memory_reads [] = []
 memory_reads (m ∷ ms) = operand_reads m.enable ++ (operand_reads m.index ++ (operand_reads m.value ++ memory_reads ms))
 
--- What registers and memories take at the edge.
+-- The names that registers and memories read at the clock edge.
 abbrev pub edge_reads : Net → List Name
 edge_reads n = register_reads n.registers ++ memory_reads n.memories
 

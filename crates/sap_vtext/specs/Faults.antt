@@ -9,8 +9,8 @@ use Rattle.sap_vtext.specs.Widths.{constant_fits, shape_width, operand_width, pa
 
 -- What an item uses.
 
--- A name is used as an operand or sliced; indexed on a right side; or as the target of an item, with an index or
--- without.
+-- How an item uses a name: as a value, sliced or not, as a memory that it reads, or as the wire, register or memory
+-- that it sets.
 pub data Manner : Type 0 where
   as_value as_cell as_wire as_register as_memory : Manner
 
@@ -118,7 +118,7 @@ is_settable (Some (register width)) = true
 is_settable (Some (memory width depth)) = true
 is_settable _ = false
 
--- `a` wire needs its `assign`, a register or memory both its `initial` and its `always`.
+-- A wire needs its `assign`; a register or memory needs its `initial` and its `always`.
 abbrev pub needs : Shape → Setting → Bool
 needs (wire width) assign = true
 needs (register width) initial = true

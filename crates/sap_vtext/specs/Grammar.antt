@@ -61,18 +61,18 @@ binary_sign binary.Le = t.less_or_equal
 binary_sign binary.Shl = t.shift_left
 binary_sign binary.Shr = t.shift_right
 
--- OPERAND is NAME or CONST.
+-- `OPD` is NAME or CONST.
 pub data IsOperand : List Token → Operand → List Token → Type 0 where
   name : {ts r : List Token} {n : Mention} → IsName ts n r → IsOperand ts (item.named n) r
   constant : {ts r : List Token} {c : Constant} → IsConstant ts c r → IsOperand ts (item.constant c) r
 
--- The production is `"[" NUM ":" "0" "]"`.
+-- `RANGE` is `"[" NUM ":" "0" "]"`.
 pub data IsRange : List Token → Number → List Token → Type 0 where
   range : {ts a b c d r : List Token} {n : Number} → IsSign ts t.open_bracket a → IsNumber a n b
       → IsSign b t.colon c → IsDigit c 0 d
       → IsSign d t.close_bracket r → IsRange ts n r
 
--- PORT is `input RANGE NAME`, `output reg RANGE NAME` or `output wire RANGE NAME`.
+-- A `port` is `input RANGE NAME`, `output reg RANGE NAME` or `output wire RANGE NAME`.
 pub data IsPort : List Token → Port → List Token → Type 0 where
   input : {ts a b r : List Token} {n : Number} {x : Mention} → IsWord ts t.input_word a → IsRange a n b → IsName b x r
       → IsPort ts (record { direction = item.input; range = n; name = x }) r
@@ -96,7 +96,7 @@ pub data AreParts : List Token → List Operand → List Token → Type 0 where
       → IsOperand a o b → AreParts b os r
       → AreParts ts (o ∷ os) r
 
--- RIGHT is an operand, an operator with its operands, a choice, a concatenation, a slice or a cell.
+-- An `rhs` is an operand, an operator with its operands, a choice, a concatenation, a slice or a cell.
 pub data IsRight : List Token → Right → List Token → Type 0 where
   copy : {ts r : List Token} {a : Operand} → IsOperand ts a r → IsRight ts (item.copy a) r
   two : {ts m n r : List Token} {x y : Operand} (op : Op2) → IsOperand ts x m
@@ -124,8 +124,8 @@ pub data IsClocked : List Token → List Token → Type 0 where
       → IsSign b t.open_paren c → IsWord c t.posedge_word d
       → IsWord d t.clk_word e → IsSign e t.close_paren r → IsClocked ts r
 
--- The production `"for" "(" "i" "=" "0" ";" "i" "<" NUM ";" "i" "=" "i" "+" "1" ")"`, with the place of the first `i`
--- and the number.
+-- The tokens begin with `"for" "(" "i" "=" "0" ";" "i" "<" NUM ";" "i" "=" "i" "+" "1" ")"`. The place is that of the
+-- first `i`, the number that of NUM.
 pub data IsLoop : List Token → ℕ → Number → List Token → Type 0 where
   loop : {ts a b c d e f g h i j k l m n o r : List Token} {place : ℕ} {bound : Number}
       → IsWord ts t.for_word a → IsSign a t.open_paren b
@@ -135,7 +135,7 @@ pub data IsLoop : List Token → ℕ → Number → List Token → Type 0 where
       → IsSign o t.close_paren r
       → IsLoop ts place bound r
 
--- ITEM is a declaration, an assignment, a start or a clocked write.
+-- An `item` is a declaration, an assignment, a start or a clocked write.
 pub data IsItem : List Token → Item → List Token → Type 0 where
   wire : {ts a b c r : List Token} {n : Number} {x : Mention} → IsWord ts t.wire_word a → IsRange a n b
       → IsName b x c → IsSign c t.semicolon r
@@ -178,7 +178,7 @@ pub data AreItems : List Token → List Item → List Token → Type 0 where
   next_item : {ts m r : List Token} {x : Item} {xs : List Item} → IsItem ts x m → AreItems m xs r
       → AreItems ts (x ∷ xs) r
 
--- FILE is `module NAME ( input clk`, the ports, `);`, the items and `endmodule`.
+-- A `file` is `module NAME ( input clk`, the ports, `);`, the items and `endmodule`.
 pub data IsFile : List Token → File → List Token → Type 0 where
   file : {ts a b c d e f g h r : List Token} {x : Mention} {ps : List Port} {xs : List Item}
       → IsWord ts t.module_word a → IsName a x b

@@ -9,12 +9,12 @@ pub record Mention : Type 0 where
   pub place : ℕ
   pub name : List ℕ
 
--- A number is told where it stands.
+-- A number, with its place in the text.
 pub record Number : Type 0 where
   pub place : ℕ
   pub value : ℕ
 
--- A constant is told where it stands.
+-- A constant has a width and a value, and its place in the text.
 pub record Constant : Type 0 where
   pub place : ℕ
   pub width : ℕ
@@ -39,7 +39,7 @@ pub data Right : Type 0 where
 pub data Direction : Type 0 where
   input output_register output_wire : Direction
 
--- A port is told with the number of its range.
+-- A port has a direction, the number in its range, which is its width less 1, and a name.
 pub record Port : Type 0 where
   pub direction : Direction
   pub range : Number

@@ -60,7 +60,7 @@ sign_text bar = codes "|"
 sign_text caret = codes "^"
 sign_text tilde = codes "~"
 
--- The signs of two bytes stand first, so that the longest is found first.
+-- All signs, those of two bytes first, so that the longest is found first.
 abbrev pub signs : List Sign
 signs =
     equal ∷ not_equal ∷ less_or_equal ∷ shift_left ∷ shift_right ∷ open_paren ∷ close_paren ∷ open_brace
@@ -104,7 +104,7 @@ abbrev pub number_front : List ℕ → Front
 number_front digits = if is_below_2_64 (digits_value 10 digits)
     then token (number (digits_value 10 digits) (length digits)) (length digits) else bad
 
--- A constant has the width's digits and the number's.
+-- The token of a constant that is written with these digits of its width and of its number, if both are below 2^64.
 abbrev pub constant_front : List ℕ → List ℕ → Front
 constant_front width digits =
     if is_below_2_64 (digits_value 10 width) && is_below_2_64 (digits_value 10 digits)

@@ -50,7 +50,7 @@ net_kind item.output_wire = kind.Wire
 abbrev pub net_port : item.Port → Port
 net_port p = record { name = p.name.name; kind = net_kind p.direction }
 
--- An input has a name and a width.
+-- The input of a port, if its direction is that of an input.
 abbrev pub net_input : item.Direction → Name → ℕ → List Input
 net_input item.input x width = record { name = x; width = width } ∷ []
 net_input _ x width = []
@@ -64,7 +64,7 @@ abbrev pub declared_width : Option Shape → ℕ
 declared_width (Some shape) = shape_width shape
 declared_width None = 0
 
--- Each `assign` is a wire.
+-- The wire that an item assigns, with its declared width, if the item is an `assign`.
 abbrev pub net_wires : List Declaration → item.Item → List Wire
 net_wires ds (item.assign x right) = record {
   name = x.name;
@@ -78,12 +78,12 @@ abbrev pub first_of : {A : Type 0} → Option A → Option A → Option A
 first_of (Some a) later = Some a
 first_of None later = later
 
--- `first_given` is what the first of the items that has it gives.
+-- `first_given` is what `f` gives for the first item for which it gives something.
 abbrev pub first_given : {A : Type 0} → (item.Item → Option A) → List item.Item → Option A
 first_given f [] = None
 first_given f (x ∷ xs) = first_of (f x) (first_given f xs)
 
--- The thing, where the name is n.
+-- `a`, if the two names are equal.
 abbrev pub when : {A : Type 0} → List ℕ → Name → A → Option A
 when x n a = if bytes_eq x n then Some a else None
 

@@ -44,12 +44,12 @@ abbrev pub shape_in : List Declaration → List ℕ → Option Shape
 shape_in [] n = None
 shape_in (d ∷ ds) n = if bytes_eq d.name.name n then Some d.shape else shape_in ds n
 
--- This is what stands before an item.
+-- What comes before an item: all ports, and the items above it.
 pub record Above : Type 0 where
   pub ports : List Port
   pub items : List Item
 
--- The item is one of a file, and this stands before it there.
+-- `x` is an item of the file, and `above` is what comes before it.
 pub record IsItemOf (f : File) (above : Above) (x : Item) : Type 0 where
   pub below : List Item
   pub ports : above.ports ≡ f.ports

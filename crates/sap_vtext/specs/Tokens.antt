@@ -20,7 +20,7 @@ pub data Kind : Type 0 where
   number : ℕ → ℕ → Kind
   constant : ℕ → ℕ → Kind
 
--- A token is told with how many bytes of the text stand before it.
+-- A token is of a kind, and its place is how many bytes of the text come before it.
 pub record Token : Type 0 where
   pub place : ℕ
   pub kind : Kind

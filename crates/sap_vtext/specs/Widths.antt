@@ -17,7 +17,7 @@ constant_fits c = nat_le 1 c.width && (nat_le c.width 64 && nat_lt c.value (2 ^ 
 abbrev pub constant_width : Constant → Option ℕ
 constant_width c = if constant_fits c then Some c.width else None
 
--- An operand that is declared so, and, if it is a wire, is or isn't assigned before, has this width.
+-- The width of an operand of this shape: there is one for an input, a register, and a wire that is assigned before.
 abbrev pub value_width : Option Shape → Bool → Option ℕ
 value_width (Some (input width)) assigned = Some width
 value_width (Some (register width)) assigned = Some width
@@ -66,7 +66,8 @@ abbrev pub slice_width : Option ℕ → ℕ → ℕ → Option ℕ
 slice_width (Some width) high low = if nat_le low high && nat_lt high width then Some (high + 1 - low) else None
 slice_width None high low = None
 
--- The widths of the target and the operands of an operator have to be equal so.
+-- Which widths an operator wants equal. `all_equal`: those of its operands and its target. `compared`: those of its
+-- operands, and its target's with 1. `first_only`: those of its first operand and its target.
 pub data Rule : Type 0 where
   all_equal compared first_only : Rule
 
@@ -108,7 +109,7 @@ binary_pairs all_equal target x y = (target, x) ∷ (target, y) ∷ (x, y) ∷ [
 binary_pairs compared target x y = (target, Some 1) ∷ (x, y) ∷ []
 binary_pairs first_only target x y = (target, x) ∷ []
 
--- Of `?:`, the condition and 1 have one width, and the target and the arms.
+-- The pairs of a `?:`: its condition has width 1, and its target and both arms have one width.
 abbrev pub arm_pairs : Option ℕ → Option ℕ → Option ℕ → Option ℕ → Pairs
 arm_pairs condition target x y = (condition, Some 1) ∷ (target, x) ∷ (target, y) ∷ (x, y) ∷ []
 

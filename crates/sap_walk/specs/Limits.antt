@@ -34,7 +34,7 @@ abbrev pub unless_broken : {A Limit : Type 0} → Option Limit → A → Result 
 unless_broken None a = Ok a
 unless_broken (Some limit) a = Err limit
 
--- `a` token in its role has gone by.
+-- What is kept after one more token, in its role, has gone by.
 abbrev pub passed : {Role Token Counts Limit : Type 0} → (Counts → Role → Token → Counts)
     → (Counts → Role → Token → Option Limit)
     → Role → Token → Past Counts Limit → Past Counts Limit

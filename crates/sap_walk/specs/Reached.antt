@@ -2,7 +2,7 @@
 -- length stands at byte n of the text, longest first, and `Stands n t len` that the token t does.
 use Rattle.std.specs.Prelude.{ℕ, ◌+◌, List, [], ◌∷◌, ◌++◌}
 
--- The first bytes are these tokens, with blanks between them.
+-- The text up to a place is these tokens, with blanks before, between and after them.
 pub data Reached {Token : Type 0} (Blank : ℕ → ℕ → Type 0) (Stands : ℕ → Token → ℕ → Type 0) : ℕ
     → List Token → Type 0 where
   start : Reached Blank Stands 0 []

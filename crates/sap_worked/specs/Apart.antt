@@ -24,7 +24,8 @@ RegisterSeenInOne = Apart (register_has register_x 5 left calm) (register_has re
 abbrev pub CellNumber : Type 0
 CellNumber = Apart calm (slot_has (start memory_k 1) 5 left calm)
 
--- Stores with a different next number of a low cell don't agree.
+-- Stores with a different next number of a cell of an enforced memory, at a level at or below left in both, don't
+-- agree.
 abbrev pub NextCellNumber : Type 0
 NextCellNumber = Apart calm (slot_has (next memory_k 1) 5 left calm)
 
@@ -53,7 +54,8 @@ MemorySeenInOne = Apart calm (cell_has memory_m 0 0 right calm)
 abbrev pub EnforcedRegisterLevel : Type 0
 EnforcedRegisterLevel = Apart (level_is register_y right calm) (level_is register_y high calm)
 
--- Stores with a different level of such a cell don't agree.
+-- Stores with a different level of an enforced memory's cell don't agree, where the authority is at or below left and
+-- the level is so in neither.
 abbrev pub EnforcedCellLevel : Type 0
 EnforcedCellLevel = Apart (cell_has memory_k 0 0 right calm)
     (slot_has (start memory_k 0) 0 high (cell_has memory_k 0 0 right calm))
@@ -63,11 +65,13 @@ abbrev pub NextEnforcedCellLevel : Type 0
 NextEnforcedCellLevel = Apart (cell_has memory_k 0 0 right calm)
     (slot_has (next memory_k 0) 0 high (cell_has memory_k 0 0 right calm))
 
--- Stores with a different level of such a state don't agree, though the state isn't active.
+-- Stores with a different level of an enforced state don't agree, where its authority is at or below left, though the
+-- state isn't active.
 abbrev pub InactiveStateLevel : Type 0
 InactiveStateLevel = Apart (level_is state_q right calm) (level_is state_q high calm)
 
--- Stores with a different level of a state that is active don't agree.
+-- Stores with a different level of an active, enforced state don't agree, where its authority is at or below left and
+-- the level is so in neither.
 abbrev pub ActiveStateLevel : Type 0
 ActiveStateLevel = Apart (child_is state_p 1 calm) (level_is state_d high (child_is state_p 1 calm))
 
@@ -75,7 +79,7 @@ ActiveStateLevel = Apart (child_is state_p 1 calm) (level_is state_d high (child
 abbrev pub OtherChild : Type 0
 OtherChild = Apart calm (child_is the_root 1 calm)
 
--- Stores with a different current child below don't agree.
+-- Stores with a different current child of an active state, at or below left in both, don't agree.
 abbrev pub OtherChildBelow : Type 0
 OtherChildBelow = Apart calm (child_is state_c 1 calm)
 
@@ -83,7 +87,7 @@ OtherChildBelow = Apart calm (child_is state_c 1 calm)
 abbrev pub ChildLevel : Type 0
 ChildLevel = Apart calm (level_is state_c left calm)
 
--- Stores with a different level of a child below don't agree.
+-- Stores with a different level of a current child further down the active path, at or below left in both, don't agree.
 abbrev pub ChildLevelBelow : Type 0
 ChildLevelBelow = Apart calm (level_is state_f left calm)
 

@@ -18,7 +18,7 @@ accepted_or_not = program_of four_levels (an_input 8 ∷ held_register 8 low 0 �
     (command_then (put 0 2 1) (goes 2 4)) (command_then (put 0 2 2) (goes 3 3))) end_block) no_node)
     (and_node (state_node 4 (command_then (put 0 2 3) (goes 4 3)) no_node) no_node))
 
--- `y` and x, and which state is current.
+-- What is looked at: y and x, and which state is current.
 abbrev pub at_y_and_x : Look
 at_y_and_x = record { values = own 1 ∷ own 2 ∷ []; states = []; parents = 5 ∷ [] }
 

@@ -10,7 +10,7 @@ use Rattle.sap_resolved.specs.Fill.{program_of}
 abbrev pub decided_program : Program
 decided_program = program_of low_high decided
 
--- It has all that the laws ask for.
+-- The program has all that the laws ask for.
 pub record DecidedServes : Type 0 where
   pub fine : FineProgram decided_program
   pub exact : ExactProgram decided_program

@@ -6,15 +6,7 @@ use Rattle.sap_meaning.specs.State.{first}
 use Rattle.sap_meaning.specs.Examples.{four_levels, an_input, a_register, held_register, a_memory, held_memory, a_state, held_state}
 use Rattle.sap_worked.specs.Rows.{left, right, high, low, register_under, memory_under, state_under, goes}
 
--- The text `input a : 8; reg x : 8 dynamic; reg y : 8 enforced left; reg z : 8 enforced high under right;
--- mem m : 8[2] dynamic; mem k : 8[2] enforced left; mem h : 8[2] enforced high under right;
--- state P enforced low {
---   fall;
---   state C dynamic { fall; state F dynamic { goto G; } state G dynamic { goto F; } }
---   state D enforced right { goto E; }
---   state E enforced high { goto C; }
--- }
--- state Q enforced left { fall; state I dynamic { goto J; } state J enforced high under right { goto I; } }`.
+-- The number of the input a. Each name below is the number of an entity of `ground`.
 abbrev pub input_a : ℕ
 input_a = 0
 
@@ -97,7 +89,11 @@ ground_world = record {
 abbrev pub falls : (site : ℕ) → Block
 falls site = command_then (lone (fall_to_child site [])) end_block
 
--- The program over these entities: its states fall and go on.
+-- The text `input a : 8; reg x : 8 dynamic; reg y : 8 enforced left; reg z : 8 enforced high under right; mem m : 8[2]
+-- dynamic; mem k : 8[2] enforced left; mem h : 8[2] enforced high under right; state P enforced low { fall; state C
+-- dynamic { fall; state F dynamic { goto G; } state G dynamic { goto F; } } state D enforced right { goto E; } state E
+-- enforced high { goto C; } } state Q enforced left { fall; state I dynamic { goto J; } state J enforced high under
+-- right { goto I; } }`.
 abbrev pub ground : Program
 ground = record {
   world = ground_world;
@@ -117,7 +113,7 @@ ground = record {
 abbrev pub calm : Store
 calm = first ground_world
 
--- A slot has that number and level.
+-- The store with a number and a level put in a slot.
 abbrev pub slot_has : Slot → (number level : ℕ) → Store → Store
 slot_has a n t s = put_level ground_world a t (put_number a n s)
 
@@ -125,7 +121,7 @@ slot_has a n t s = put_level ground_world a t (put_number a n s)
 abbrev pub register_has : (register number level : ℕ) → Store → Store
 register_has x n t s = slot_has (own x) n t s
 
--- So both parts of a cell.
+-- The store with a number and a level put in both parts of a memory's cell.
 abbrev pub cell_has : (memory index number level : ℕ) → Store → Store
 cell_has m i n t s = slot_has (start m i) n t (slot_has (next m i) n t s)
 
@@ -133,6 +129,6 @@ cell_has m i n t s = slot_has (start m i) n t (slot_has (next m i) n t s)
 abbrev pub level_is : (entity level : ℕ) → Store → Store
 level_is x t s = put_level ground_world (own x) t s
 
--- The current child of a state, or of the root, is the one at that place.
+-- The store with the current child of a state, or of the root, put at a place.
 abbrev pub child_is : (parent place : ℕ) → Store → Store
 child_is p n s = put_child p n s

@@ -46,7 +46,7 @@ from_dynamic = program_of four_levels (an_input 1 ∷ a_register 8 ∷ held_regi
     end_block) (goes 0 3)) end_block) no_node)
     (and_node (state_node 4 (goes 3 4) no_node) no_node))
 
--- The state `state P enforced low { .. }`, so that each `goto` in it is a check site.
+-- The design of `from_dynamic` with `state P enforced low { .. }`, so that each `goto` in it is a check site.
 abbrev pub from_enforced : Program
 from_enforced = program_of four_levels (an_input 1 ∷ a_register 8 ∷ held_register 8 right 0
     ∷ held_state 0 3 low ∷ state_under 1 4 left left ∷ []) (0 ∷ 0 ∷ 0 ∷ 0 ∷ 0 ∷ 2 ∷ [])
@@ -55,7 +55,7 @@ from_enforced = program_of four_levels (an_input 1 ∷ a_register 8 ∷ held_reg
     end_block) (goes 4 3)) end_block) no_node)
     (and_node (state_node 4 (goes 5 4) no_node) no_node))
 
--- `x` and y, the levels of P and T, and which is current.
+-- What is looked at: x and y, the levels of P and T, and which of these is current.
 abbrev pub at_p_and_t : Look
 at_p_and_t = record { values = own 1 ∷ own 2 ∷ []; states = 3 ∷ 4 ∷ []; parents = 5 ∷ [] }
 
@@ -93,14 +93,14 @@ chained = program_of four_levels
 abbrev pub four_registers : Look
 four_registers = record { values = own 1 ∷ own 2 ∷ own 3 ∷ own 4 ∷ []; states = []; parents = [] }
 
--- `y` is refused at low join left; in left z at left join right; in high u is written; behind the handlers, in low, v
--- is refused at low join low. Sites rise, their levels need not.
+-- Register y is refused at low join left, and in left z at left join right; in high u is written. After the handlers,
+-- in low, v is refused at low join low. The sites rise; their levels need not.
 abbrev pub RisingRefusals : Type 0
 RisingRefusals = rows chained four_registers ((at_level right 5 ∷ []) ∷ [])
     ≡ row (at_level left 1 ∷ at_level right 2 ∷ at_level high 9 ∷ at_level low 4 ∷ []) [] []
     (refused_at 1 left ∷ refused_at 2 high ∷ refused_at 4 low ∷ []) ∷ []
 
--- `y` is written, so no handler runs; v is refused.
+-- Register y is written, so no handler runs; v is refused.
 abbrev pub NoHandlerRuns : Type 0
 NoHandlerRuns = rows chained four_registers ((at_level left 5 ∷ []) ∷ [])
     ≡ row (at_level left 5 ∷ at_level right 2 ∷ at_level high 3 ∷ at_level low 4 ∷ []) [] []

@@ -20,11 +20,11 @@ retagged_cells t u = program_of four_levels (an_input 1 ∷ an_input 1 ∷ an_in
 abbrev pub both_cells : Look
 both_cells = record { values = start 3 0 ∷ start 3 1 ∷ []; states = []; parents = [] }
 
--- The text `k[0] := 7`.
+-- The inputs of a cycle that does `k[0] := 7`.
 abbrev pub writes_seven : List Tagged
 writes_seven = at_level low 1 ∷ at_level low 0 ∷ at_level low 0 ∷ []
 
--- SetTag(k[j], level(n)).
+-- The inputs of a cycle that does `setTag(k[j], level(n))`.
 abbrev pub retags : (j n : Tagged) → List Tagged
 retags j n = at_level low 0 ∷ j ∷ n ∷ []
 
@@ -87,11 +87,11 @@ retagged_state u = program_of four_levels
     (command_then (if_else [] (read 0) (goes 2 5) (goes 3 4)) end_block)) no_node)
     (and_node (state_node 5 (command_then (put 4 3 1) (command_then (put 0 2 2) (goes 5 4))) no_node) no_node))
 
--- `x` and y, the level of Q, and which of P and Q is current.
+-- What is looked at: x and y, the level of Q, and which of P and Q is current.
 abbrev pub into_q : Look
 into_q = record { values = own 2 ∷ own 3 ∷ []; states = 5 ∷ []; parents = 6 ∷ [] }
 
--- SetTag(Q, level(n)), and goto Q where c is 1.
+-- The inputs of a cycle that does `setTag(Q, level(n))`, and then `goto Q` if c is 1.
 abbrev pub asks : (c n : Tagged) → List Tagged
 asks c n = c ∷ n ∷ []
 
@@ -144,7 +144,7 @@ retagged_child = program_of four_levels (an_input 1 ∷ a_register 8 ∷ held_st
     (and_node (state_node 3 (command_then (put 0 1 1) (goes 3 3)) no_node) no_node))
     (and_node (state_node 4 (command_then (lone (retag 4 3 (fixed left))) (goes 5 2)) no_node) no_node))
 
--- `x`, the level of C, and which of P and Q is current.
+-- What is looked at: x, the level of C, and which of P and Q is current.
 abbrev pub into_c : Look
 into_c = record { values = own 1 ∷ []; states = 3 ∷ []; parents = 5 ∷ [] }
 

@@ -6,16 +6,15 @@ use Rattle.sap_meaning.specs.Store.{Slot, own, Store, Refusal, After, number, le
 use Rattle.sap_meaning.specs.Cycle.{Tagged}
 use Rattle.sap_meaning.specs.State.{labelled_run}
 
--- The levels of `four_levels`: low is below all, high above all, and neither of left and right is below the other. So
--- the join of left and right is high.
+-- The lowest of the levels of `four_levels`: it is below all others.
 abbrev pub low : ℕ
 low = 0
 
--- A level above the bottom.
+-- A level between low and high that is neither above nor below `right`; the join of the two is high.
 abbrev pub left : ℕ
 left = 1
 
--- The level beside `left`.
+-- A level between low and high that is neither above nor below `left`; the join of the two is high.
 abbrev pub right : ℕ
 right = 2
 
@@ -23,7 +22,7 @@ right = 2
 abbrev pub high : ℕ
 high = 3
 
--- Enforced entities, with a level and the authority under which it may be changed.
+-- An enforced register with a level, the authority under which that may be changed, and a start number.
 abbrev pub register_under : (width level authority initial : ℕ) → Entity
 register_under u t a n = record {
   kind = register;
@@ -81,6 +80,6 @@ seen_after w look a = record {
   refused = a.refused;
 }
 
--- A row a cycle, from the first state on.
+-- The rows of the labelled run of a program on a stream, one for each cycle.
 abbrev pub rows : Program → Look → List (List Tagged) → List Row
 rows p look stream = map (seen_after p.world look) (labelled_run p stream)

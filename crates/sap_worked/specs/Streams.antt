@@ -15,19 +15,19 @@ abbrev pub InputsAlike : Type 0
 InputsAlike = InputsAgree four_levels left (at_level left 5 ∷ at_level right 6 ∷ [])
     (at_level left 5 ∷ at_level high 7 ∷ [])
 
--- The number, at a level at or below left in both.
+-- Inputs with different numbers, at a level at or below left in both, don't agree.
 abbrev pub InputNumber : Type 0
 InputNumber = InputsApart (at_level low 5 ∷ at_level left 5 ∷ []) (at_level low 5 ∷ at_level left 6 ∷ [])
 
--- The level, at or below left in both.
+-- Inputs with different levels, at or below left in both, don't agree.
 abbrev pub InputLevel : Type 0
 InputLevel = InputsApart (at_level low 5 ∷ []) (at_level left 5 ∷ [])
 
--- The level, at or below left in one alone.
+-- Inputs whose level is at or below left in one alone don't agree.
 abbrev pub InputSeenInOne : Type 0
 InputSeenInOne = InputsApart (at_level left 5 ∷ []) (at_level right 5 ∷ [])
 
--- An input too many, though its level isn't at or below left.
+-- Cycles of which one has an input more don't agree, though that input's level isn't at or below left.
 abbrev pub InputTooMany : Type 0
 InputTooMany = InputsApart (at_level low 5 ∷ []) (at_level low 5 ∷ at_level high 6 ∷ [])
 
@@ -35,21 +35,21 @@ InputTooMany = InputsApart (at_level low 5 ∷ []) (at_level low 5 ∷ at_level 
 abbrev pub StreamsApart : List (List Tagged) → List (List Tagged) → Type 0
 StreamsApart a b = StreamsAgree four_levels left a b → ⊥
 
--- In each cycle the inputs agree.
+-- Two streams agree at left, since in each cycle the inputs do.
 abbrev pub StreamsAlike : Type 0
 StreamsAlike = StreamsAgree four_levels left ((at_level low 5 ∷ []) ∷ (at_level right 6 ∷ []) ∷ [])
     ((at_level low 5 ∷ []) ∷ (at_level high 7 ∷ []) ∷ [])
 
--- The second cycle's number.
+-- Streams with a different number in the second cycle, at left in both, don't agree.
 abbrev pub LaterCycle : Type 0
 LaterCycle = StreamsApart ((at_level low 5 ∷ []) ∷ (at_level left 6 ∷ []) ∷ [])
     ((at_level low 5 ∷ []) ∷ (at_level left 7 ∷ []) ∷ [])
 
--- A cycle too many, though its input isn't at or below left.
+-- Streams of which one has a cycle more don't agree, though the input of that cycle isn't at or below left.
 abbrev pub CycleTooMany : Type 0
 CycleTooMany = StreamsApart ((at_level low 5 ∷ []) ∷ []) ((at_level low 5 ∷ []) ∷ (at_level high 6 ∷ []) ∷ [])
 
--- What is at or below left is the same, but comes a cycle later.
+-- Streams don't agree if what is at or below left is the same but comes a cycle later in one.
 abbrev pub CycleLater : Type 0
 CycleLater = StreamsApart ((at_level low 5 ∷ []) ∷ (at_level high 6 ∷ []) ∷ [])
     ((at_level high 6 ∷ []) ∷ (at_level low 5 ∷ []) ∷ [])
@@ -63,25 +63,25 @@ pub record StreamsAgreeBelow : Type 0 where
 abbrev pub RefusalsApart : List Refusal → List Refusal → Type 0
 RefusalsApart a b = RefusalsAgree four_levels left a b → ⊥
 
--- Without those at right and high, both are site 1 at low and site 3 at left.
+-- Two lists of refusals agree at left: without those at right and high, both have site 1 at low and site 3 at left.
 abbrev pub RefusalsAlike : Type 0
 RefusalsAlike = RefusalsAgree four_levels left
     (refused_at 1 low ∷ refused_at 2 right ∷ refused_at 3 left ∷ [])
     (refused_at 1 low ∷ refused_at 3 left ∷ refused_at 4 high ∷ [])
 
--- The site.
+-- Refusals of different sites, at or below left in both, don't agree.
 abbrev pub RefusedSite : Type 0
 RefusedSite = RefusalsApart (refused_at 1 left ∷ []) (refused_at 2 left ∷ [])
 
--- The level, at or below left in both.
+-- Refusals of one site at different levels, at or below left in both, don't agree.
 abbrev pub RefusedLevel : Type 0
 RefusedLevel = RefusalsApart (refused_at 1 low ∷ []) (refused_at 1 left ∷ [])
 
--- The level, at or below left in one alone.
+-- Refusals of one site whose level is at or below left in one alone don't agree.
 abbrev pub RefusedSeenInOne : Type 0
 RefusedSeenInOne = RefusalsApart (refused_at 1 left ∷ []) (refused_at 1 right ∷ [])
 
--- One refusal more, at or below left.
+-- Lists of refusals of which one has a refusal more, at or below left, don't agree.
 abbrev pub RefusedTooMany : Type 0
 RefusedTooMany = RefusalsApart (refused_at 1 low ∷ []) (refused_at 1 low ∷ refused_at 2 low ∷ [])
 

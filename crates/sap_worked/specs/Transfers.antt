@@ -27,7 +27,7 @@ lowers_below = program_of four_levels
     (and_node (state_node 7 (goes 3 7) no_node) no_node))))
     (and_node (state_node 8 (goes 4 3) no_node) no_node))
 
--- `x`, the levels of C, D, G and E, and the current children of the root and of P.
+-- What is looked at: x, the levels of C, D, G and E, and the current children of the root and of P.
 abbrev pub below_p : Look
 below_p = record { values = own 2 ∷ []; states = 4 ∷ 5 ∷ 6 ∷ 7 ∷ []; parents = 9 ∷ 3 ∷ [] }
 
@@ -84,7 +84,8 @@ falls = program_of four_levels (an_input 1 ∷ a_register 8 ∷ a_memory 8 2 ∷
     (and_node (state_node 5 (command_then (put 0 1 1)
     (command_then (lone (write 0 2 (constant 1 0) (constant 8 2))) (goes 0 5))) no_node) no_node))) no_node)
 
--- `x` and a cell of m, the levels of C and D, and which is current: what hangs on the fall but isn't touched in C.
+-- What is looked at: x and a cell of m, the levels of C and D, and which of these is current. The fall touches x, m and
+-- D, and the body of C none of them.
 abbrev pub hanging : Look
 hanging = record { values = own 1 ∷ start 2 0 ∷ []; states = 4 ∷ 5 ∷ []; parents = 3 ∷ [] }
 

@@ -14,11 +14,11 @@ written k site goes = program_of four_levels (an_input 1 ∷ an_input 8 ∷ k �
     (0 ∷ 0 ∷ 0 ∷ 0 ∷ 1 ∷ [])
     (loop 3 goes (λ b. command_then (lone (write site 2 (read 0) (read 1))) b))
 
--- Mem k : 8[2] enforced left; the write is a check site.
+-- The design with `mem k : 8[2] enforced left;`, in which the write is a check site.
 abbrev pub written_enforced : Program
 written_enforced = written (held_memory 8 2 left) 1 2
 
--- Mem k : 8[2] dynamic; the write is none.
+-- The design with `mem k : 8[2] dynamic;`, in which the write is no check site.
 abbrev pub written_dynamic : Program
 written_dynamic = written (a_memory 8 2) 0 1
 

@@ -24,7 +24,8 @@ pub record Answers (words : List (List ℕ)) (lost lost_now answer : ℕ) (t n :
   -- Unless a call failed or memory ran out, the arguments and files have the ending's cause.
   pub cause : IsFree ending ⊎ Cause (asks_for words) t ending
 
--- Over a desk that tells nothing as well: an answer but 6 and 7 is one that the words can come to.
+-- On every desk, also one that reports no contents, an answer other than 6 and 7 is one to which the arguments can
+-- lead.
 pub record MayAnswer (words : List (List ℕ)) (answer : ℕ) : Type 0 where
   pub ending : Ending
   pub status : answer ≡ status_of ending

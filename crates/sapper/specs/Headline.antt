@@ -22,8 +22,8 @@ use Rattle.sap_compile.specs.Runs.{HasOneRunOnStreams}
 use Rattle.sap_words.specs.Words.{command_of, compile}
 use Rattle.sap_files.specs.Contents.{Has, IsLatticeFile, IsWellFormedText}
 
--- In every cycle of each run of a netlist on a stream of tagged inputs, levels being given as codes, it has the values,
--- tags, active states and refused writes of the same cycle of the design's labelled run.
+-- Take any stream that fits the design, its levels given as codes, and any run of the netlist on it. Each cycle of the
+-- run has the values, tags, active states and refused writes of the same cycle of the labelled run.
 abbrev pub MeansInEveryCycle : Levels → DesignTree → Net → Type 0
 MeansInEveryCycle ls d net =
     (stream : List (List Tagged)) → StreamFits (world (named_of ls d)) stream
@@ -49,7 +49,7 @@ pub record MeansDesign (ls : Levels) (d : DesignTree) (text : List ℕ) : Type 0
   pub agree : RunsAgree ls d net
   pub look_alike : RunsLookAlike ls d net
 
--- A `compile` answers this on a desk that tells these contents before and after it, exactly where its files are so.
+-- Which answer a `compile` gives, by its files: `t` is what the desk reports before the call, and `n` after it.
 pub record CompilesExactly (lattice design out : List ℕ) (answer : ℕ) (t n : Told) : Type 0 where
   -- If it is done, the design is well formed over the lattice, and what is written means it.
   pub only : answer ≡ 0

@@ -79,7 +79,7 @@ pub record HasNoDesign (lattice system : List ℕ) (t : Told) (ls : Levels) (s :
   pub file : t.files p.file ≡ Some source
   pub none : (d : DesignTree) → ¬ IsWellFormedText ls source d
 
--- A `link` answers this on a desk that tells these contents before and after it, exactly where its files are so.
+-- Which answer a `link` gives, by its files: `t` is what the desk reports before the call, and `n` after it.
 pub record LinksExactly (lattice system out : List ℕ) (lost lost_now answer : ℕ) (t n : Told) : Type 0 where
   -- If it is done, the files are such, the wires break no rule, and what is written means the system.
   pub only : answer ≡ 0
@@ -104,7 +104,7 @@ pub record LinksExactly (lattice system out : List ℕ) (lost lost_now answer : 
       → FirstLinkFault (surroundings ls designs) s.wires fault → answer ≢ 6 → answer ≢ 7
       → (answer ≡ 9) × Gained (line (codes "system: " ++ wire_text fault)) lost lost_now t n
 
--- The words are those of a `link`.
+-- If the arguments are those of a `link`, `LinksExactly` holds of them.
 abbrev pub Links : (words : List (List ℕ)) → (lost lost_now answer : ℕ) → Told → Told → Type 0
 Links words lost lost_now answer t n =
     (lattice system out : List ℕ) → command_of words ≡ Some (link lattice system out)

@@ -45,7 +45,8 @@ pub record AreForMachine (lattice design stimulus : List ℕ) (t : Told) (x y : 
   -- A line of a stimulus can stand for so many cycles.
   pub count : IsCount (1 + 6 * slices)
 
--- A `run` answers this on such files, on a desk that tells these contents before and after it.
+-- Which answer a `run` on the files of the machine gives: `t` is what the desk reports before the call, and `n` after
+-- it.
 pub record RunsMachine (lattice design stimulus : List ℕ) (answer : ℕ) (t n : Told) : Type 0 where
   -- If it is done, standard output gained rows that end with what `cpu` prints of the same texts after as many
   -- slices.
@@ -55,7 +56,7 @@ pub record RunsMachine (lattice design stimulus : List ℕ) (answer : ℕ) (t n 
   pub always : (x y : List ℕ) (slices : ℕ) → AreForMachine lattice design stimulus t x y slices
       → answer ≢ 6 → answer ≢ 7 → answer ≡ 0
 
--- Each of the four commands does so, by what the arguments are.
+-- If the arguments are those of `machine`, `asm`, `cpu` or `run`, that command keeps its promise on the machine.
 pub record Machines (words : List (List ℕ)) (lost lost_now answer : ℕ) (t n : Told) : Type 0 where
   pub design : command_of words ≡ Some machine → WritesMachine answer t n
   pub stimulus : (first second : List ℕ) (slices : ℕ) → command_of words ≡ Some (asm first second slices)

@@ -25,7 +25,7 @@ pub record TellsTaint (ls : Levels) (net : Net) (text : List ℕ) : Type 0 where
   -- and its tags there are the taint of that run.
   pub taint : HasTaintOf (order_of ls) net tagged
 
--- A `taint` answers this on a desk that tells these contents before and after it, exactly where its files are so.
+-- Which answer a `taint` gives, by its files: `t` is what the desk reports before the call, and `n` after it.
 pub record TaintsExactly (lattice verilog out : List ℕ) (lost lost_now answer : ℕ) (t n : Told) : Type 0 where
   -- If it is done, the files are a lattice and a module in which each tag has a name of its own, and what is
   -- written is the module with tags.
@@ -45,7 +45,7 @@ pub record TaintsExactly (lattice verilog out : List ℕ) (lost lost_now answer 
       → Has t verilog IsModule net → IsClash net x → answer ≢ 6 → answer ≢ 7
       → (answer ≡ 5) × Gained (line (codes "module: " ++ taint_text (Clash x))) lost lost_now t n
 
--- The words are those of a `taint`.
+-- If the arguments are those of a `taint`, `TaintsExactly` holds of them.
 abbrev pub Taints : (words : List (List ℕ)) → (lost lost_now answer : ℕ) → Told → Told → Type 0
 Taints words lost lost_now answer t n =
     (lattice verilog out : List ℕ) → command_of words ≡ Some (taint lattice verilog out)

@@ -39,7 +39,7 @@ pub record AreForRun (lattice verilog stimulus : List ℕ) (t : Told) (ls : Leve
   pub is_module : Has t verilog IsModule net
   pub lines : Has t stimulus (IsModuleStream ls net) stream
 
--- A `wave` answers this on a desk that tells these contents before and after it, exactly where its files are so.
+-- Which answer a `wave` gives, by its files: `t` is what the desk reports before the call, and `n` after it.
 pub record WavesExactly (lattice verilog stimulus out : List ℕ) (answer : ℕ) (t n : Told) : Type 0 where
   -- If it is done, the files are such, and what is written tells the run.
   pub only : answer ≡ 0
@@ -57,7 +57,7 @@ pub record WavesExactly (lattice verilog stimulus out : List ℕ) (answer : ℕ)
       → Has t verilog IsModule net → t.files stimulus ≡ Some bytes
       → ((stream : List (List Tagged)) → ¬ (IsModuleStream ls net bytes stream)) → answer ≢ 6 → answer ≢ 7 → answer ≡ 4
 
--- An `unwave` answers this on a desk that tells these contents before and after it, exactly where its files are so.
+-- Which answer an `unwave` gives, by its files: `t` is what the desk reports before the call, and `n` after it.
 pub record UnwavesExactly (lattice dump : List ℕ) (lost lost_now answer : ℕ) (t n : Told) : Type 0 where
   -- If it is done, WAVE has a reading, of which standard output gained the rows.
   pub only : answer ≡ 0
@@ -80,13 +80,13 @@ pub record UnwavesExactly (lattice dump : List ℕ) (lost lost_now answer : ℕ)
       → IsModuleStream ls net bytes stream → TellsRun ls net stream text
       → (rows : List ℕ) × (n.written 1 ≡ t.written 1 ++ rows) × AreModuleRows ls net bytes rows
 
--- The words are those of a `wave`.
+-- If the arguments are those of a `wave`, `WavesExactly` holds of them.
 abbrev pub Waves : (words : List (List ℕ)) → (answer : ℕ) → Told → Told → Type 0
 Waves words answer t n =
     (lattice verilog stimulus out : List ℕ) → command_of words ≡ Some (wave lattice verilog stimulus out)
     → WavesExactly lattice verilog stimulus out answer t n
 
--- The arguments are those of an `unwave`.
+-- If the arguments are those of an `unwave`, `UnwavesExactly` holds of them.
 abbrev pub Unwaves : (words : List (List ℕ)) → (lost lost_now answer : ℕ) → Told → Told → Type 0
 Unwaves words lost lost_now answer t n =
     (lattice dump : List ℕ) → command_of words ≡ Some (unwave lattice dump)

@@ -1,5 +1,5 @@
 -- Lines that were read, and what the steps in their cycles show, so far.
-use Rattle.sap_lemmas.proofs.Common.{rules, ◌≡◌, ◌⊎◌, inl, inr, ℕ, ◌+◌, ◌-◌, ◌*◌, ◌<◌, ◌≤◌, List, [], ◌∷◌, ◌++◌, length, take, drop, append_assoc, refl, sym, ◌∙◌, ap, subst, arith, length-append, ◌^◌, Option, Some, None, IfSome, option_map, length-replicate}
+use Rattle.sap_lemmas.proofs.Common.{rules, ◌≡◌, ◌⊎◌, inl, inr, ℕ, ◌+◌, ◌*◌, ◌<◌, ◌≤◌, List, [], ◌∷◌, ◌++◌, length, take, drop, append_assoc, refl, sym, ◌∙◌, ap, subst, arith, length-append, ◌^◌, Option, Some, None, IfSome, option_map, length-replicate}
 use Rattle.sap_stream.proofs.SpansLemmas.{cycles_more}
 use Rattle.sap_desk.specs.Desk.{Told, added, read_on, rest_of}
 use Rattle.sap_desk.specs.Whole.{Between, IsReadTo}

@@ -14,8 +14,8 @@ use Rattle.sap_lines.specs.declared.stepping.stopped.Stopped.{Stopped}
 use Rattle.sap_lines.specs.declared.stepping.stopped.Stopped.TheVariants.{Call, Memory}
 use Rattle.sap_lines.specs.Stepping.Pace.{FaultOf, IsNeeded, IsTooLong, IsWritten, Shows, printed_fault, printed_text}
 
--- So many bytes more were read of a channel, this was written on channel 1, and nothing else changed but the blame. The
--- last piece was asked for behind so many of these bytes, if one was.
+-- `count` bytes more were read of a channel, `gained` was written on channel 1, and nothing else changed but the blame.
+-- The last piece, if there was one, was asked for after `asked` of these bytes.
 pub record Going (channel : ℕ) (asked : Option ℕ) (count : ℕ) (gained : List ℕ) (t n : Told) : Type 0 where
   pub uses : n.uses ≡ at_number channel (read_on_use asked count (t.uses channel)) t.uses
   pub files : n.files ≡ t.files
@@ -31,7 +31,7 @@ pub record IsPartShown (shows : Shows) (ls : Levels) (fs : List Field) (bytes ga
   pub rest : List ℕ
   pub shown : shows lines (gained ++ rest)
 
--- Behind how many bytes the last piece was asked for: none, where none was.
+-- After how many bytes the last piece was asked for; 0 if none was.
 abbrev pub last_place : (asked : Option ℕ) → ℕ
 last_place asked = unwrap_or asked 0
 

@@ -16,11 +16,11 @@ Shows = List (List Given) → List ℕ → Type 0
 abbrev pub Prints : Type 1
 Prints = (bytes text : List ℕ) → Type 0
 
--- By which fault bytes end, if any.
+-- The fault of the first line of some bytes that is refused, if one is.
 abbrev pub FaultOf : Type 0
 FaultOf = (bytes : List ℕ) → Option StimFault
 
--- So of what the lines show that stand before the first refused one.
+-- The text that is printed of the bytes of a stimulus: what its lines before the first refused one show.
 abbrev pub printed_text : Shows → Levels → List Field → Prints
 printed_text shows ls fs bytes text = shows (stimulus_of ls fs bytes).stream text
 
@@ -28,18 +28,16 @@ printed_text shows ls fs bytes text = shows (stimulus_of ls fs bytes).stream tex
 abbrev pub printed_fault : Levels → List Field → FaultOf
 printed_fault ls fs bytes = (stimulus_of ls fs bytes).fault
 
--- These bytes tell that a line is refused: whatever comes behind them, it is this one, and for this reason.
+-- These bytes decide a refusal: whatever follows them, the same line is refused for the same reason.
 abbrev pub TellsRefusal : FaultOf → (bytes : List ℕ) → Type 0
 TellsRefusal fault bytes = (why : StimFault) × ((rest : List ℕ) → fault (bytes ++ rest) ≡ Some why)
 
--- The last piece that was read of a file is needed: the bytes behind which it was asked for don't tell that a line is
--- refused.
+-- A further piece of a file is needed: the bytes before it decide no refusal.
 abbrev pub IsNeeded : FaultOf → (before : List ℕ) → Type 0
 IsNeeded fault before = ¬ TellsRefusal fault before
 
--- What is written where a call fails, of the bytes of a file that were read by then, and of those before the last
--- piece. Where it is a call on the file, it is exactly what the bytes give that were read. Where it is one on the
--- output, it begins with what those before the last piece give.
+-- What is written if a call fails: `front` are the bytes read by then, `before` those before the last piece. If the
+-- call was on the file, exactly what `front` gives is written; if it was on the output, at least what `before` gives.
 abbrev pub IsWritten : FailedCall → Prints → (before front : List ℕ) → (gained : List ℕ) → Type 0
 IsWritten Input text before front gained = text front gained
 IsWritten Output text before front gained = (whole more : List ℕ) × text before whole × (gained ≡ whole ++ more)

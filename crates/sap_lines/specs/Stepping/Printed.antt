@@ -13,7 +13,7 @@ use Rattle.sap_lines.specs.declared.stepping.stopped.Stopped.TheVariants.{Call, 
 use Rattle.sap_lines.specs.Stepping.Followed.{IsPartShown, blamed_for}
 use Rattle.sap_lines.specs.Stepping.Pace.{FaultOf, IsNeeded, IsTooLong, IsWritten, Prints, Shows, printed_fault, printed_text}
 
--- This was written on channel 1, and nothing else changed but what is open and whom the desk blames.
+-- `gained` was written on channel 1, and nothing else changed but what is open and whom the desk blames.
 pub record OutputGrew (gained : List ℕ) (t n : Told) : Type 0 where
   pub files : n.files ≡ t.files
   pub output : n.written 1 ≡ t.written 1 ++ gained
@@ -33,8 +33,8 @@ pub record Printed (shows : Shows) (ls : Levels) (fs : List Field) (name : List 
   pub uses : n.uses ≡ t.uses
   pub blame : n.blame ≡ t.blame
 
--- A call failed where so many bytes of a file were read, the last piece asked for behind so many of them, and this was
--- written: the channel is still open that reads it, since no further call is made.
+-- A call failed after the file was opened, and no further call is made, so its channel is still open. The file is read
+-- up to `position`, its last piece was asked for at `asked` and was needed, and `gained` is as in `IsWritten`.
 pub record StaysOpen (why : FailedCall) (name : List ℕ) (text : Prints) (fault : FaultOf) (t : Told)
     (gained : List ℕ) (before after : ℕ → Use) : Type 0 where
   pub channel : ℕ
@@ -65,7 +65,7 @@ pub record CutShort (shows : Shows) (ls : Levels) (fs : List Field) (name : List
 abbrev pub CallFailed : Shows → Levels → List Field → (name : List ℕ) → FailedCall → Told → Told → Type 0
 CallFailed shows ls fs name why t n = ((why ≡ Input) × (n ≡ blamed name t)) ⊎ CutShort shows ls fs name why t n
 
--- It ended early: by a failed call, of which this holds; or for want of memory, and nothing changed.
+-- Printing ended early: by a failed call, of which `Failure` holds; or out of memory, and nothing changed.
 abbrev pub Stops : (Failure : FailedCall → Told → Told → Type 0) → Stopped → Told → Told → Type 0
 Stops Failure (Call why) t n = Failure why t n
 Stops Failure Memory t n = n ≡ t

@@ -31,7 +31,7 @@ set_x = assign (named (codes "x")) (number 1)
 abbrev pub go : List ℕ → SimpleCommand
 go name = go_to nowhere (named name)
 
--- Input a : 8; reg x : 8 dynamic; and these states.
+-- The text `input a : 8; reg x : 8 dynamic;` with the given states.
 abbrev pub design : StateList → DesignTree
 design states = record {
   version = One;

@@ -36,7 +36,7 @@ step_points names (retag_cell site m j n) = []
 step_points names (go_to site target) = []
 step_points names (fall_to_child site hang) = at_fall (hanging names hang) ∷ []
 
--- In the order of the words.
+-- The points of a command in the order of their words: that of its step, its own, and those of its blocks.
 abbrev pub own_points : List (List ℕ) → Command → (below : List Point) → List Point
 own_points names (lone k) below = step_points names k
 own_points names (try k hang h) below = step_points names k ++ at_otherwise (hanging names hang) ∷ below
@@ -48,19 +48,19 @@ own_points names (case_of hang e arms) below = at_case (hanging names hang) ∷ 
 abbrev pub points : List (List ℕ) → Command → List Point
 points names c = folded [] ◌++◌ (own_points names) c
 
--- Those of the arms of a `case`.
+-- The points of the arms of a `case`, with the names of what they touch.
 abbrev pub arms_points : List (List ℕ) → Arms → List Point
 arms_points names arms = folded_in_arms [] ◌++◌ (own_points names) arms
 
--- Those of a block.
+-- The points of a block, with the names of what they touch.
 abbrev pub block_points : List (List ℕ) → Block → List Point
 block_points names b = folded_in_block [] ◌++◌ (own_points names) b
 
--- Those of a state's body and of its descendants' bodies.
+-- The points in the bodies of a state and of its descendants, with the names of what they touch.
 abbrev pub state_points : List (List ℕ) → State → List Point
 state_points names t = gathered_from [] ◌++◌ (λ s. block_points names (body_of s)) t
 
--- Those of a group of states.
+-- The points in the bodies of a group's states and of their descendants, with the names of what they touch.
 abbrev pub group_points : List (List ℕ) → Group → List Point
 group_points names g = gathered_from_group [] ◌++◌ (λ s. block_points names (body_of s)) g
 
@@ -68,15 +68,15 @@ group_points names g = gathered_from_group [] ◌++◌ (λ s. block_points names
 abbrev pub names_of : DesignTree → List (List ℕ)
 names_of d = map (λ e. e.name.name) (entities_of d)
 
--- Of a design; and what hangs on the root's fall.
+-- The points of a design in the order of the text, each with the names of what its command touches.
 abbrev pub hang_table : Levels → DesignTree → List Point
 hang_table ls d = group_points (names_of d) (program_of ls d).states
 
--- The names of what the root touches.
+-- The names of what the root's fall touches.
 abbrev pub hang_at_root : Levels → DesignTree → List (List ℕ)
 hang_at_root ls d = hanging (names_of d) (program_of ls d).hang
 
--- The lists themselves, each over the entities' numbers, in the same order.
+-- The list that a step stores: a `fall` has one, and no other step has.
 abbrev pub step_rows : Step → List (List Bool)
 step_rows (assign site x e) = []
 step_rows (write site m i e) = []
@@ -97,24 +97,23 @@ own_rows (case_of hang e arms) below = hang ∷ below
 abbrev pub rows : Command → List (List Bool)
 rows c = folded [] ◌++◌ own_rows c
 
--- Those of the arms of a `case`.
+-- The lists that the arms of a `case` store, in order.
 abbrev pub arms_rows : Arms → List (List Bool)
 arms_rows arms = folded_in_arms [] ◌++◌ own_rows arms
 
--- Those of a block.
+-- The lists that a block stores, in order.
 abbrev pub block_rows : Block → List (List Bool)
 block_rows b = folded_in_block [] ◌++◌ own_rows b
 
--- Those of a state's body and of its descendants' bodies.
+-- The lists that the bodies of a state and of its descendants store, in order.
 abbrev pub state_rows : State → List (List Bool)
 state_rows t = gathered_from [] ◌++◌ (λ s. block_rows (body_of s)) t
 
--- Those of a group of states.
+-- The lists that the bodies of a group's states and of their descendants store, in order.
 abbrev pub group_rows : Group → List (List Bool)
 group_rows g = gathered_from_group [] ◌++◌ (λ s. block_rows (body_of s)) g
 
--- The same over the tree: of each entity, in the order of declaration, whether the command at the point touches its
--- name.
+-- For each entity, in the order of declaration, whether its name passes a test.
 abbrev pub row_of : List Entity → (List ℕ → Bool) → List Bool
 row_of es test = map (λ e. test e.name.name) es
 
@@ -122,6 +121,6 @@ row_of es test = map (λ e. test e.name.name) es
 abbrev pub point_row : List Decl → List Entity → tree_points.Point → List Bool
 point_row ds es p = row_of es (tree.touches ds p.home p.command)
 
--- These lists for all points of a design, in the order of the text.
+-- For each point of a design, in the order of the text, which entities the command there touches.
 abbrev pub rows_of : DesignTree → List (List Bool)
 rows_of d = map (point_row d.declarations (entities_of d)) (tree_points.points_of d)

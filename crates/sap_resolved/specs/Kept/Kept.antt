@@ -24,7 +24,7 @@ IsNth [] n name = ⊥
 IsNth (x ∷ xs) zero name = x ≡ name
 IsNth (x ∷ xs) (suc n) name = IsNth xs n name
 
--- The entity of this number, and the level, is called so.
+-- The entity of this number has this name.
 abbrev pub IsNamed : List Entity → (x : ℕ) → (name : List ℕ) → Type 0
 IsNamed es x name = IsNth (map (λ e. e.name.name) es) x name
 
@@ -74,7 +74,7 @@ abbrev mutual
   AreTags ls es (and_tag t (and_tag u tags)) (both a b) = IsTag ls es t a × AreTags ls es (and_tag u tags) b
   AreTags ls es (and_tag t (and_tag u tags)) _ = ⊥
 
--- A command that can have a handler.
+-- A command that can have a handler is this step, with the same targets and expressions.
 abbrev pub IsStep : Levels → List Entity → SimpleCommand → Step → Type 0
 IsStep ls es (assign target e) (assign site x t) = IsNamed es x target.name × IsTerm es e t
 IsStep ls es (tree.write target index e) (write site m i t) =
@@ -129,23 +129,24 @@ abbrev mutual
   IsList ls es (and_command c cs) (command_then d ds) = IsCommand ls es c d × IsList ls es cs ds
   IsList ls es _ _ = ⊥
 
--- An authority; the bottom where none is written.
+-- The level is the written authority, or the bottom if none is written.
 abbrev pub IsAuthority : Levels → Option Under → ℕ → Type 0
 IsAuthority ls None n = n ≡ (order_of ls).bottom
 IsAuthority ls (Some under) n = IsLevel ls n under.level.name
 
--- Dynamic, or enforced at a level and under an authority.
+-- The entity is dynamic, or enforced at the written level and under the written authority.
 abbrev pub HasKind : Levels → Kind → program.Entity → Type 0
 HasKind ls (Dynamic place) e = e.dynamic ≡ true
 HasKind ls (Enforced level under) e = (e.dynamic ≡ false) × IsLevel ls e.declared level.name
     × IsAuthority ls under e.authority
 
--- What a register starts with; 0 where nothing is written.
+-- A register starts with this number, 0 if none is written.
 abbrev pub StartsWith : Option Numeral → ℕ → Type 0
 StartsWith None n = n ≡ 0
 StartsWith (Some start) n = n ≡ start.value
 
--- A declaration.
+-- The entity is what a declaration declares: of its kind and width, dynamic or enforced as written, and with the start
+-- number of a register.
 abbrev pub IsDeclared : Levels → Decl → program.Entity → Type 0
 IsDeclared ls (Input place name width) e = (e.kind ≡ program.input) × (e.width ≡ width.value) × (e.dynamic ≡ true)
 IsDeclared ls (Register place name width kind start) e =

@@ -18,12 +18,12 @@ pub record IsKept (ls : Levels) (d : DesignTree) : Type 0 where
   pub entities : root (program_of ls d).world ≡ length (entities_of d)
   pub one_name : (x y : ℕ) (name : List ℕ) → IsNamed (entities_of d) x name → IsNamed (entities_of d) y name → x ≡ y
 
--- So it is where no fault of names and widths stands in a design.
+-- The program of a design keeps the design, if it has no fault of names and widths.
 abbrev pub ResolvingKeeps : Type 0
 ResolvingKeeps = (ls : Levels) (d : DesignTree) → design_name_faults ls.names (order_of ls).le d ≡ [] → IsKept ls d
 
--- And where none stands in a design, the lists of its program, in the order of the points, have exactly what the
--- commands there touch in the tree, entity by entity; and the root's list has what the root's fall touches.
+-- If a design has no fault of names and widths, the lists of its program, in the order of the points, have exactly what
+-- the commands at the points touch in the tree, entity by entity. The root's list has what the root's fall touches.
 abbrev pub HangsAgree : Type 0
 HangsAgree = (ls : Levels) (d : DesignTree) → design_name_faults ls.names (order_of ls).le d ≡ []
     → (group_rows (program_of ls d).states ≡ rows_of d)

@@ -11,7 +11,7 @@ use Rattle.sap_resolved.specs.Fill.{program_of}
 abbrev pub ProgramsAreFine : Type 0
 ProgramsAreFine = (ls : Levels) (d : DesignTree) → Laws (order_of ls) → WellFormed ls d → FineProgram (program_of ls d)
 
--- In the program of any design each list has exactly what hangs.
+-- In the program of any design each list by which a cycle runs has exactly what its command touches.
 abbrev pub ListsAreExact : Type 0
 ListsAreExact = (ls : Levels) (d : DesignTree) → ExactProgram (program_of ls d)
 

@@ -33,7 +33,7 @@ abbrev pub retag : SimpleCommand
 retag = set_tag nowhere (named (codes "x"))
     (join_of nowhere (and_tag (level_of (named (codes "high"))) (and_tag (tag_at nowhere (read (codes "a"))) no_tag)))
 
--- The body of its state.
+-- The body of the state S of the mixer.
 abbrev pub body : CommandList
 body = and_command (lone store) (and_command (lone mix)
     (and_command (lone retag) (and_command (lone (go_to nowhere (named (codes "S")))) no_command)))
@@ -54,10 +54,10 @@ mixer = record {
 abbrev pub Lawful : Type 0
 Lawful = Laws (order_of low_high)
 
--- The grammar makes its tree.
+-- The tree of the mixer is one that the grammar has.
 abbrev pub Whole : Type 0
 Whole = is_tree mixer ≡ true
 
--- It has no fault of names and widths.
+-- The mixer has no fault of names and widths.
 abbrev pub NoFault : Type 0
 NoFault = design_name_faults low_high.names (order_of low_high).le mixer ≡ []

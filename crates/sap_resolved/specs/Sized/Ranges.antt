@@ -8,7 +8,8 @@ use Rattle.sap_meaning.specs.Walks.{EveryLevel, Every, EveryInArms, EveryInBlock
 use Rattle.sap_meaning.specs.Expressions.{width_of}
 use Rattle.sap_meaning.specs.Sized.{depth}
 
--- The widths of a term and of all its parts, those of indexes included.
+-- The widths of a term and of all its parts, those of indexes included, are from 1 to 64, and each slice is within what
+-- it is taken from.
 abbrev pub RangedTerm : World → Term ℕ → Type 0
 RangedTerm w (constant u n) = IsWidth u
 RangedTerm w (read x) = IsWidth (width w x)
@@ -36,23 +37,24 @@ RangedStep w (fall_to_child site hang) = Unit {0}
 abbrev pub Ranged : World → Command → Type 0
 Ranged w c = Every (Asks (RangedStep w) (RangedTerm w)) c
 
--- In the arms of a `case` each has.
+-- In the arms of a `case` each expression has such widths and slices.
 abbrev pub RangedArms : World → Arms → Type 0
 RangedArms w arms = EveryInArms (Asks (RangedStep w) (RangedTerm w)) arms
 
--- In a block each has.
+-- In a block each expression has such widths and slices.
 abbrev pub RangedBlock : World → Block → Type 0
 RangedBlock w b = EveryInBlock (Asks (RangedStep w) (RangedTerm w)) b
 
--- In a state's body, and in those of its descendants, each has.
+-- In a state's body, and in those of its descendants, each expression has such widths and slices.
 abbrev pub RangedState : World → State → Type 0
 RangedState w t = EveryBody (RangedBlock w) t
 
--- In the bodies of a group's states and of their descendants each has.
+-- In the bodies of a group's states and of their descendants each expression has such widths and slices.
 abbrev pub RangedGroup : World → Group → Type 0
 RangedGroup w g = EveryBodyIn (RangedBlock w) g
 
--- States have no width.
+-- Each expression of the program has widths from 1 to 64 and slices within their operands. Each entity but a state has
+-- a width from 1 to 64, and each memory a depth that memories can have.
 pub record RangedProgram (p : Program) : Type 0 where
   pub states : RangedGroup p.world p.states
   pub widths : (x : ℕ) → is_state p.world x ≡ false → IsWidth (width p.world x)

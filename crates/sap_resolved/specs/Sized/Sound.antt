@@ -20,7 +20,8 @@ abbrev pub SizesFit : Type 0
 SizesFit = (ls : Levels) (d : DesignTree) → Laws (order_of ls) → design_name_faults ls.names (order_of ls).le d ≡ []
     → SizedProgram (program_of ls d)
 
--- The same of a tree that the grammar has, where a concatenation has two parts or more: all widths are from 1 to 64.
+-- Take a design whose tree the grammar has and that has no fault of names and widths. In its program all widths are
+-- from 1 to 64, slices are within their operands, and memories have depths that they can have.
 abbrev pub WidthsInRange : Type 0
 WidthsInRange = (ls : Levels) (d : DesignTree) → is_tree d ≡ true → design_name_faults ls.names (order_of ls).le d ≡ []
     → RangedProgram (program_of ls d)

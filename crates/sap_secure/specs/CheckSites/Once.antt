@@ -12,7 +12,7 @@ use Rattle.sap_meaning.specs.Sites.{program_sites, refused_sites, Sublist}
 use Rattle.sap_resolved.specs.Fill.{program_of}
 use Rattle.sap_secure.specs.Once.Steps.{cycle_steps}
 
--- The site of a step, where it is one: what is none has the number 0.
+-- The number of the site that a step is, as a list, which is empty if the step is none.
 abbrev pub own_site : Step → List ℕ
 own_site k = if nat_eq (site_of k) 0 then [] else site_of k ∷ []
 
@@ -36,7 +36,7 @@ EachSiteOnce = (ls : Levels) (d : DesignTree) → Laws (order_of ls) → WellFor
     → (inputs : List Tagged) (s : Store)
     → (k : ℕ) → 1 ≤ k → comes_to k (cycle_steps (program_of ls d) inputs s) ≤ 1
 
--- The sites that the labelled cycle refuses are among those, in the same order.
+-- The sites that a cycle refuses are among the sites to which it comes, in the same order.
 abbrev pub RefusedMet : Type 0
 RefusedMet = (ls : Levels) (d : DesignTree) → Laws (order_of ls) → WellFormed ls d → (inputs : List Tagged) (s : Store)
     → Sublist (refused_sites (cycle (program_of ls d) inputs s).refused)

@@ -7,7 +7,8 @@ use Rattle.sap_meaning.specs.Program.{Program, Step, assign, write, retag, retag
 use Rattle.sap_meaning.specs.Checks.{site_of}
 use Rattle.sap_meaning.specs.Sites.{PlacedStep, placed_sites}
 
--- A site of a program: its number, what kind of step stands there, and the entity that it would change.
+-- A site of a program: its number, what kind of step it is, and the entity that it names, for a `fall` the state in
+-- whose body it is.
 pub record ProgramSite : Type 0 where
   pub number : ℕ
   pub kind : SiteKind
@@ -22,7 +23,7 @@ kind_of_step (retag_cell site m j n) = kind.SetTag
 kind_of_step (go_to site target) = kind.Goto
 kind_of_step (fall_to_child site hang) = kind.Fall
 
--- Its target, and of a fall the state in whose body it stands.
+-- The target of a step; for a `fall` the state in whose body it is.
 abbrev pub entity_of : (state : ℕ) → Step → ℕ
 entity_of s (assign site x e) = x
 entity_of s (write site m i e) = m

@@ -12,8 +12,8 @@ use Rattle.sap_resolved.specs.Fill.{program_of}
 use Rattle.sap_secure.specs.Confinement.{Confines}
 use Rattle.sap_secure.specs.Laws.{CyclesAgree, LaterAgree, LabelledAgree}
 
--- In a context that is not at or below a level, a command of the design changes nothing that is, under the conditions
--- of `Hidden`.
+-- In a context that is not at or below a level, a command of the design changes nothing at or below that level, under
+-- the conditions of `Hidden`.
 abbrev pub DesignsConfine : Type 0
 DesignsConfine = (ls : Levels) (d : DesignTree) → Laws (order_of ls) → WellFormed ls d → Confines (program_of ls d)
 
@@ -39,7 +39,7 @@ abbrev pub EachRises : List After → Type 0
 EachRises [] = Unit {0}
 EachRises (a ∷ rest) = RisesFrom 1 (refused_sites a.refused) × EachRises rest
 
--- So in every run of the design: no site is refused twice in a cycle, and what is refused stands in the order of the
+-- In every run of the design no site is refused twice in a cycle, and the refusals of a cycle are in the order of the
 -- text.
 abbrev pub RefusalsRise : Type 0
 RefusalsRise = (ls : Levels) (d : DesignTree) → Laws (order_of ls) → WellFormed ls d

@@ -13,7 +13,7 @@ use Rattle.sap_meaning.specs.Fine.{FineProgram}
 use Rattle.sap_resolved.specs.Fill.{program_of}
 use Rattle.sap_lattice.specs.Examples.{low_high}
 
--- Enforced level under authority.
+-- The kind of an entity that is enforced at a level under an authority.
 abbrev pub guarded : (level authority : List ℕ) → Kind
 guarded level authority = let under : Under = record { place = nowhere; level = named authority } in
     Enforced (named level) (Some under)
@@ -69,7 +69,8 @@ leave = try (go (codes "P")) nowhere (one (lone (go (codes "Q"))))
 abbrev pub state_q : StateTree
 state_q = state_node nowhere (named (codes "Q")) (enforced (codes "high")) (block (raise ∷ leave ∷ [])) no_state
 
--- Input a : 1; mem m : 8[4] dynamic; reg x : 8 dynamic; reg y : 4 enforced high under low = 5; and the states P and Q.
+-- The text `input a : 1; mem m : 8[4] dynamic; reg x : 8 dynamic; reg y : 4 enforced high under low = 5;` with the
+-- states P and Q.
 abbrev pub sample : DesignTree
 sample = record {
   version = One;

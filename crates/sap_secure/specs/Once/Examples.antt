@@ -60,7 +60,7 @@ below = program_of two_levels (an_input 1 ∷ a_memory 8 4 ∷ held_state 0 3 0 
     (and_node (state_node 3 (command_then (lone (put 0 1)) (command_then (lone (go_to 3 3)) end_block))
     no_node) no_node)) no_node)
 
--- Those of a child's body come after the fall into it.
+-- The steps of a child's body come after the fall into it.
 abbrev pub AfterFall : Type 0
 AfterFall = (first_steps below (low 1 ∷ []) ≡ fall_to_child 1 [] ∷ put 0 1 ∷ go_to 3 3 ∷ [])
     × (first_steps below (low 0 ∷ []) ≡ put 1 2 ∷ go_to 2 2 ∷ [])

@@ -37,7 +37,7 @@ abbrev pub ChangesOneCell : Program → Type 0
 ChangesOneCell p = (inputs : List Tagged) (s : Store) → Resting p.world s → (m : ℕ)
     → (i : ℕ) × ((j : ℕ) → j ≢ i → CellStays p.world m j s (cycle p inputs s).store)
 
--- So it is in every design that is well formed over a lattice.
+-- A law of programs holds of the program of every design that is well formed over a lattice.
 abbrev pub InDesigns : (Program → Type 0) → Type 0
 InDesigns Law = (ls : Levels) (d : DesignTree) → Laws (order_of ls) → WellFormed ls d → Law (program_of ls d)
 

@@ -98,7 +98,7 @@ unfoldable mutual
   child_steps w (and_node t g) parent zero pc st = state_steps w t parent pc st
   child_steps w (and_node t g) parent (suc n) pc st = child_steps w g parent n pc st
 
--- Of the root's fall into the n-th top-level state.
+-- The steps of the body of the n-th top-level state, into which the root falls.
 unfoldable pub root_steps : World → (hangs : ℕ → Bool) → Group → (n : ℕ) → Store → List Step
 root_steps w hangs no_node n s = []
 root_steps w hangs (and_node (state_node c b k) g) zero s =
@@ -106,7 +106,7 @@ root_steps w hangs (and_node (state_node c b k) g) zero s =
     state_steps w (state_node c b k) (root w) t (raise w.order hangs t s)
 root_steps w hangs (and_node t g) (suc n) s = root_steps w hangs g n s
 
--- Of a cycle.
+-- The steps to which a cycle comes, in order.
 unfoldable pub cycle_steps : Program → List Tagged → Store → List Step
 cycle_steps p inputs s =
     let w = p.world in
