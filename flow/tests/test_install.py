@@ -29,7 +29,7 @@ class Install(Folder):
         installed = {path for path in self.every() - before}
         wanted = ("bin/sapper", "share/man/man1/sapper.1", "share/vim/vimfiles/compiler/sapper.vim", "share/sapper/editors/vscode/package.json")
         self.assertTrue({f"here/{path}" for path in wanted} <= installed)
-        self.assertEqual([path for path in installed if "test" in path], [])
+        self.assertEqual([path for path in installed if "/tests/" in path or os.path.basename(path).startswith("test")], [])
         lattice, design = example("first/lattice.toml"), example("first/adder.sapper")
         self.assertEqual(self.run_there("sapper", "compile", lattice, design, "top.v"), (0, "", ""))
         self.assertEqual(self.run_there("sapper-check", lattice, design), (0, "", ""))
