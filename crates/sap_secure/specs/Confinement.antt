@@ -95,11 +95,8 @@ pub record Situation : Type 0 where
 
 -- Where the command of a situation is.
 abbrev pub home_in : Program → Situation → Home
-home_in p at = record {
-  state = number_of at.state;
-  parent = last_parent (root p.world) at.way;
-  children = kids_of at.state;
-}
+home_in p at =
+    record { state = number_of at.state; parent = last_parent (root p.world) at.way; children = kids_of at.state }
 
 -- What the command of a situation does.
 abbrev pub done_in : Program → Situation → Store → After
