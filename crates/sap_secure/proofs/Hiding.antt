@@ -1,10 +1,10 @@
 -- The conditions of a command in a context from above, worked out.
-use Rattle.sap_lemmas.proofs.Common.{◌≡◌, ℕ, zero, suc, ◌<◌, Bool, true, false, ◌&&◌, ◌||◌, [], ◌∷◌, refl, arith, nat_eq, nat_lt, nat_le, inl, inr, common_steps, eqb-true, or_cases}
+use Rattle.sap_lemmas.proofs.Common.{◌≡◌, ℕ, zero, suc, ◌<◌, Bool, true, false, ◌&&◌, ◌||◌, refl, arith, nat_eq, nat_lt, nat_le, inl, inr, common_steps, eqb-true, or_cases}
 use Rattle.sap_meaning.specs.Prelude.{is_dynamic, is_input, is_register, is_memory, authority, children, is_state, below, and_node, state_node, no_node, owner, put_number, put_level, put_child, raise, reset, settle, Home, touches, effect, attempt, attempt_then, select, does, does_block, does_state, does_child, cycle, set_inputs, root_fall, Holds, first, High, FineNode, FineProgram, inside, OnceState}
 use Rattle.sap_meaning.specs.Examples.{two_levels}
 use Rattle.sap_meaning.proofs.Sampled.{lawful}
 use Rattle.sap_secure.specs.Confinement.{Hidden, Confinement, level_slot}
-use Rattle.sap_secure.specs.Hiding.{decided, body_c, body_d, body_p, states_below_p, state_p, hiding, EntersHigh, before, HiddenAtLow}
+use Rattle.sap_secure.specs.Hiding.{decided, body_c, body_d, body_p, states_below_p, state_p, hiding, EntersHigh, before, in_d, HiddenAtLow}
 
 -- what holds of each entity, and past the last
 each : (P : ℕ → Type 0) → P 0 → P 1 → P 2 → P 3 → P 4 → P 5 → P 6 → ((x : ℕ) → P (suc (suc (suc (suc (suc (suc (suc x)))))))) → (x : ℕ) → P x
@@ -52,7 +52,7 @@ touched = each (λ x. (is_register hiding.world x || is_memory hiding.world x) �
     → High two_levels 0 (before.level (level_slot hiding.world x)))
     (λ r h. cc) (λ r h. refl) (λ r h. cc) (λ r h. refl) (λ r h. cc) (λ r h. cc) (λ r h. cc) (λ x r h. cc)
 
-premise : Hidden hiding 0 before (state_p ∷ []) 6 body_d no_node decided 1
+premise : Hidden hiding 0 before in_d
 unfolding first put_level put_child
 premise = record {
   holds = holds;
@@ -151,5 +151,5 @@ enters_high = refl
 pub hidden_at_low : Confinement → HiddenAtLow
 unfolding first put_number put_level put_child raise effect attempt attempt_then does does_block
 hidden_at_low law =
-    let l = law hiding fine 0 before (state_p ∷ []) 6 body_d no_node decided 1 premise in
+    let l = law hiding fine 0 before in_d premise in
     record { fine = fine; premise = premise; refused = refl; x_given = (refl, refl); y_stays = (refl, refl); z_given = (refl, refl); agree = l.0; unseen = l.1 }

@@ -3,10 +3,10 @@ use Rattle.sap_lemmas.proofs.Common.{◌≡◌, ℕ, zero, suc, true, false, ◌
 use Rattle.sap_meaning.proofs.ProgramLemmas.{register_no_memory}
 use Rattle.sap_meaning.proofs.FineLemmas.{inside_among}
 use Rattle.sap_lattice.specs.Order.{Laws}
-use Rattle.sap_meaning.specs.Prelude.{World, Kind, entity, kind_is_input, kind_is_register, kind_is_memory, is_dynamic, is_register, is_memory, is_state, root, below, Step, assign, write, go_to, fall_to_child, Command, lone, try, if_else, try_then, case_of, Arms, last_arm, and_arm, Block, end_block, command_then, State, state_node, Group, no_node, and_node, own, next, next_whole, Store, home, level, child, among, step_hangs, hangs, touches, group_assigns, step_retags, retags, block_retags, state_retags, group_retags, does, does_child, Holds, High, FineTerm, FineStep, FineCommand, inside, number_of, kids_of, ClosingArms, NoTransfer, reaches, Every, EveryInArms, some_in_arms}
+use Rattle.sap_meaning.specs.Prelude.{seen, StatesAgree, Program, World, Kind, entity, kind_is_input, kind_is_register, kind_is_memory, is_dynamic, is_register, is_memory, is_state, root, below, Step, assign, write, go_to, fall_to_child, Command, lone, try, if_else, try_then, case_of, Arms, last_arm, and_arm, Block, end_block, command_then, State, state_node, Group, no_node, and_node, own, next, next_whole, Store, home, level, child, among, step_hangs, hangs, touches, group_assigns, step_retags, retags, block_retags, state_retags, group_retags, does, does_child, Holds, High, FineTerm, FineStep, FineCommand, inside, number_of, kids_of, ClosingArms, NoTransfer, reaches, Every, EveryInArms, some_in_arms}
 use Rattle.sap_meaning.specs.Program.{input}
-use Rattle.sap_meaning.specs.Fine.{Nth}
-use Rattle.sap_secure.specs.Confinement.{last_parent, Active, StandsIn, StandsInBlock, is_goto, is_fall, has_goto, has_fall, level_slot, EqualParts, SomeHigh, Guarded, Confinement, StandsInArms}
+use Rattle.sap_meaning.specs.Fine.{FineProgram, Nth}
+use Rattle.sap_secure.specs.Confinement.{done_in, Hidden, last_parent, Active, StandsIn, StandsInBlock, is_goto, is_fall, has_goto, has_fall, level_slot, EqualParts, SomeHigh, Guarded, Confinement, StandsInArms}
 use Rattle.sap_meaning.proofs.WalksLemmas.{some_follows}
 use Rattle.sap_secure.proofs.Apart.{found, hung, unassigned, group_unassigned, inside_state, state_no_register, state_no_memory, register_apart, memory_apart}
 use Rattle.sap_secure.proofs.Concerns.{concerns, hanging}
@@ -284,7 +284,7 @@ module _ (w : World) (laws : Laws w.order) (l : ℕ) (i : Site w) (c : Command) 
   quiet_of f g _ k h = cc
 
   -- and of the state and its current child
-  cover_of : High w.order l (level w (own i.state) s) ⊎ Guarded w l i.state i.kids c s → Cover w l i.state i.kids (touches w (spot i) c) s
+  cover_of : High w.order l (level w (own i.state) s) ⊎ Guarded w l (state_node i.state i.body i.kids) c s → Cover w l i.state i.kids (touches w (spot i) c) s
   cover_of (inl high) = record { own_high = λ h. high; kid_high = λ a n low h. cc }
   cover_of (inr f) = record {
     own_high = λ h. (let d = and_left (is_dynamic w i.state) _ h in let no = f.0 (own_goto w i c (fine_command w i c fine) (and_right (is_dynamic w i.state) _ h)) in cc);
@@ -298,9 +298,13 @@ module _ (w : World) (laws : Laws w.order) (l : ℕ) (i : Site w) (c : Command) 
       other x m = ne_eqb x i.state (λ z. let f = neither_left (nat_eq i.state x) (below w x i.state) ((kids_around w i).apart x m) in
           let y = subst (λ v. nat_eq i.state v ≡ true) (sym z) (test_of_same i.state) in cc)
 
-pub confinement_law : Confinement
+-- the law, for a state in its parts
+by_state : (p : Program) → FineProgram p → (l : ℕ) (s : Store) (way : List State) (t : State) (c : Command) (pc : ℕ)
+    → (h : Hidden p l s (record { way = way; state = t; command = c; context = pc }))
+    → StatesAgree p l s (done_in p (record { way = way; state = t; command = c; context = pc }) s).store
+    × (seen p.world.order l (done_in p (record { way = way; state = t; command = c; context = pc }) s).refused ≡ [])
 unfolding scene_at
-confinement_law p fine l s way e b g c pc h =
+by_state p fine l s way (state_node e b g) c pc h =
     (states_agree p fine.order l s _ conf.same (paths_alike p.world fine.order l s _ h.holds kept (root p.world) p.states fine.states fine.count way_same), conf.quiet)
   where
     w : World
@@ -333,7 +337,7 @@ confinement_law p fine l s way e b g c pc h =
     conf : Confined p.world l s (does p.world (spot i) (does_child p.world g e) c pc s)
     conf = does_confined p.world fine.order l i sc.entering sc.holding c proper.0 pc s h.holds h.context quiet
 
-    at_group : High p.world.order l (level p.world (own e) s) ⊎ Guarded p.world l e g c s
+    at_group : High p.world.order l (level p.world (own e) s) ⊎ Guarded p.world l (state_node e b g) c s
         → path p.world l (last_parent (root p.world) way) (last_group p.states way)
         (does p.world (spot i) (does_child p.world g e) c pc s).store ≡ path p.world l (last_parent (root p.world) way) (last_group p.states way) s
     at_group q = elim proper.1 [
@@ -353,3 +357,6 @@ confinement_law p fine l s way e b g c pc h =
 
     kept : Holds p.world (does p.world (spot i) (does_child p.world g e) c pc s).store
     kept = keeps p.world fine.order l i sc.entering sc.holding c proper.0 pc s h.holds
+
+pub confinement_law : Confinement
+confinement_law p fine l s at h = by_state p fine l s at.way at.state at.command at.context h

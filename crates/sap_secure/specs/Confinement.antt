@@ -1,8 +1,9 @@
 -- What a command does in a context that is not at or below l, as far as can be seen at l.
 use Rattle.std.specs.Prelude.{◌≡◌, ℕ, Bool, true, false, ◌||◌, List, [], ◌∷◌, ◌⊎◌, if◌then◌else◌}
-use Rattle.sap_meaning.specs.Program.{World, Program, is_dynamic, is_register, is_memory, root, Step, assign, write, retag, retag_cell, go_to, fall_to_child, Command, lone, try, if_else, try_then, case_of, Arms, last_arm, and_arm, Block, end_block, command_then, State, state_node, Group}
-use Rattle.sap_meaning.specs.Store.{Store, Slot, own, start, next, next_whole, number, level, child}
-use Rattle.sap_meaning.specs.Walks.{some}
+use Rattle.sap_meaning.specs.Program.{World, Program, is_dynamic, is_register, is_memory, root, Step, assign, write, retag, retag_cell, go_to, fall_to_child, Command, lone, try, if_else, try_then, case_of, Arms, last_arm, and_arm, Block, end_block, command_then, State, Group}
+use Rattle.sap_meaning.specs.Store.{Store, Slot, own, start, next, next_whole, number, level, child, After}
+use Rattle.sap_meaning.specs.Walks.{some, body_of}
+use Rattle.sap_meaning.specs.Checks.{Home}
 use Rattle.sap_meaning.specs.Touches.{touches}
 use Rattle.sap_meaning.specs.Does.{does, does_child}
 use Rattle.sap_meaning.specs.State.{Holds}
@@ -77,47 +78,54 @@ abbrev pub SomeHigh : World → ℕ → Store → List State → Type 0
 SomeHigh w l s [] = ⊥
 SomeHigh w l s (t ∷ ts) = High w.order l (level w (own (number_of t)) s) ⊎ SomeHigh w l s ts
 
--- If c has a `goto`, the state e is not dynamic. If c has a `fall`, the current child of e among the children g is no
--- dynamic state with a level at or below l.
-abbrev pub Guarded : World → ℕ → ℕ → Group → Command → Store → Type 0
-Guarded w l e g c s = (has_goto c ≡ true → is_dynamic w e ≡ false)
-    × (has_fall c ≡ true → (t : State) → Nth g (child e s) t → is_dynamic w (number_of t) ≡ true
-    → High w.order l (level w (own (number_of t)) s))
+-- If the command has a `goto`, the state is not dynamic. If it has a `fall`, the state's current child is no dynamic
+-- state with a level at or below l.
+abbrev pub Guarded : World → (l : ℕ) → State → Command → Store → Type 0
+Guarded w l t c s = (has_goto c ≡ true → is_dynamic w (number_of t) ≡ false)
+    × (has_fall c ≡ true → (a : State) → Nth (kids_of t) (child (number_of t) s) a
+    → is_dynamic w (number_of a) ≡ true → High w.order l (level w (own (number_of a)) s))
 
--- The conditions of confinement. The state e with the body b and the children g is on the active path, below the states
--- of `way`, and c is in its body. Neither the context nor the level of any dynamic register or memory that c touches is
--- at or below l. The last two fields ask for more of memories and of the states above.
-pub record Hidden (p : Program) (l : ℕ) (s : Store) (way : List State) (e : ℕ) (b : Block) (g : Group)
-    (c : Command) (pc : ℕ) : Type 0 where
+-- A command in the body of a state, and the context in which it runs. `way` are the states above that state, from the
+-- top level down.
+pub record Situation : Type 0 where
+  pub way : List State
+  pub state : State
+  pub command : Command
+  pub context : ℕ
+
+-- Where the command of a situation is.
+abbrev pub home_in : Program → Situation → Home
+home_in p at =
+    record { state = number_of at.state; parent = last_parent (root p.world) at.way; children = kids_of at.state }
+
+-- What the command of a situation does.
+abbrev pub done_in : Program → Situation → Store → After
+done_in p at s =
+    does p.world (home_in p at) (does_child p.world (kids_of at.state) (number_of at.state)) at.command at.context s
+
+-- The conditions of confinement. The state is on the active path, below the states of its way, and the command is in
+-- its body. Neither the context nor the level of any dynamic register or memory that the command touches is at or below
+-- l. The last two fields ask for more of memories and of the states above.
+pub record Hidden (p : Program) (l : ℕ) (s : Store) (at : Situation) : Type 0 where
   pub holds : Holds p.world s
-  pub active : Active (root p.world) p.states s way (state_node e b g)
-  pub command : StandsInBlock c b
-  pub context : High p.world.order l pc
-  -- No dynamic register or memory that c touches has a level at or below l; of a memory its next part counts.
+  pub active : Active (root p.world) p.states s at.way at.state
+  pub command : StandsInBlock at.command (body_of at.state)
+  pub context : High p.world.order l at.context
+  -- No dynamic register or memory that the command touches has a level at or below l; of a memory its next part counts.
   pub touched : (x : ℕ) → (is_register p.world x || is_memory p.world x) ≡ true
-      → touches p.world (record { state = e; parent = last_parent (root p.world) way; children = g }) c x ≡ true
-      → High p.world.order l (s.level (level_slot p.world x))
-  -- Each enforced memory of which c writes or retags a cell, itself or in a body that it may fall into, has equal parts.
-  pub parts : (m : ℕ) → is_memory p.world m ≡ true → is_dynamic p.world m ≡ false → reaches g c m ≡ true
-      → EqualParts p.world m s
+      → touches p.world (home_in p at) at.command x ≡ true → High p.world.order l (s.level (level_slot p.world x))
+  -- Each enforced memory of which the command writes or retags a cell, itself or in a body that it may fall into, has
+  -- equal parts.
+  pub parts : (m : ℕ) → is_memory p.world m ≡ true → is_dynamic p.world m ≡ false
+      → reaches (kids_of at.state) at.command m ≡ true → EqualParts p.world m s
   -- The state or one above it is not at or below l, or its `goto` and its `fall` are guarded.
-  pub above : SomeHigh p.world l s (state_node e b g ∷ way) ⊎ Guarded p.world l e g c s
+  pub above : SomeHigh p.world l s (at.state ∷ at.way) ⊎ Guarded p.world l at.state at.command s
 
--- Under the conditions of `Hidden`, what c does leaves a state that agrees at l with the one before, and no refusal has
--- a level at or below l.
+-- Under the conditions of `Hidden`, what a command does leaves a state that agrees at l with the one before, and no
+-- refusal has a level at or below l.
 abbrev pub Confines : Program → Type 0
-Confines p = (l : ℕ) (s : Store) (way : List State) (e : ℕ) (b : Block) (g : Group) (c : Command) (pc : ℕ)
-    → Hidden p l s way e b g c pc
-    → StatesAgree p l s (does p.world (record {
-      state = e;
-      parent = last_parent (root p.world) way;
-      children = g;
-    }) (does_child p.world g e) c pc s).store
-    × (seen p.world.order l (does p.world (record {
-      state = e;
-      parent = last_parent (root p.world) way;
-      children = g;
-    }) (does_child p.world g e) c pc s).refused ≡ [])
+Confines p = (l : ℕ) (s : Store) (at : Situation) → Hidden p l s at
+    → StatesAgree p l s (done_in p at s).store × (seen p.world.order l (done_in p at s).refused ≡ [])
 
 -- In each fine program, a command in a context that is not at or below l does nothing that shows at l, under the
 -- conditions of `Hidden`.

@@ -3,12 +3,11 @@ use Rattle.std.specs.Prelude.{◌≡◌, [], ◌∷◌}
 use Rattle.sap_maps.specs.Term.{constant}
 use Rattle.sap_meaning.specs.Program.{assign, go_to, fall_to_child, Command, lone, try, try_then, Block, end_block, command_then, State, state_node, Group, no_node, and_node, Program}
 use Rattle.sap_meaning.specs.Store.{Store, own, put_level, put_child, After, stay}
-use Rattle.sap_meaning.specs.Does.{does, does_child}
 use Rattle.sap_meaning.specs.State.{first}
 use Rattle.sap_meaning.specs.Agree.{StatesAgree, seen}
 use Rattle.sap_meaning.specs.Fine.{FineProgram}
 use Rattle.sap_meaning.specs.Examples.{two_levels, an_input, a_register, held_register, a_state, held_state, low, high, refused_at, program_of, shown, shows, fork, put_x}
-use Rattle.sap_secure.specs.Confinement.{Hidden}
+use Rattle.sap_secure.specs.Confinement.{Situation, done_in, Hidden}
 
 -- The text `z := 5 then { y := 5 otherwise { x := 1; } } otherwise { x := 2; }`.
 abbrev pub decided : Command
@@ -54,16 +53,19 @@ abbrev pub before : Store
 before = put_child 4 1 (put_level hiding.world (own 1) 1
     (put_level hiding.world (own 5) 1 (put_level hiding.world (own 6) 1 (first hiding.world))))
 
--- What the command does in D, in the context high.
+-- The command in D, below P, in the context high.
+abbrev pub in_d : Situation
+in_d = record { way = state_p ∷ []; state = state_node 6 body_d no_node; command = decided; context = 1 }
+
+-- What the command does there.
 abbrev pub after : After
-after = does hiding.world (record { state = 6; parent = 4; children = no_node })
-    (does_child hiding.world no_node 6) decided 1 before
+after = done_in hiding in_d before
 
 -- The conditions of confinement hold of `decided`, at low. It writes z and x, which are at high, and not y, which is at
 -- low; its refusal is recorded at high. So at low nothing is seen to change, and no refusal.
 pub record HiddenAtLow : Type 0 where
   pub fine : FineProgram hiding
-  pub premise : Hidden hiding 0 before (state_p ∷ []) 6 body_d no_node decided 1
+  pub premise : Hidden hiding 0 before in_d
   pub refused : after.refused ≡ refused_at 2 1 ∷ []
   pub x_given : ((shown 1 (stay before)).0 ≡ high 0) × ((shown 1 after).0 ≡ high 1)
   pub y_stays : ((shown 2 (stay before)).0 ≡ low 7) × ((shown 2 after).0 ≡ low 7)
