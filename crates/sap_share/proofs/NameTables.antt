@@ -1,5 +1,5 @@
 -- The places of names on a list, and a look-up of them as one more name is added.
-use Rattle.sap_lemmas.proofs.Common.{◌≡◌, ℕ, zero, suc, List, [], ◌∷◌, ◌++◌, Option, Some, None, false, length, sym, ap, ◌∙◌, subst, refl, inl, inr, if◌then◌else◌, bytes_eq, option_map, cases_Bool, bytes_eq_same, equal_of_bytes_eq}
+use Rattle.sap_lemmas.proofs.Common.{◌≡◌, ℕ, List, [], ◌∷◌, ◌++◌, Option, Some, None, length, sym, ap, ◌∙◌, subst, refl, inl, inr, if◌then◌else◌, bytes_eq, cases_Bool, equal_of_bytes_eq}
 use Rattle.std.specs.HashMap as hash
 use Rattle.sap_maps.specs.Maps.{Name}
 use Rattle.sap_net.specs.NameMaps.{AtPlaces, Puts, place_in}

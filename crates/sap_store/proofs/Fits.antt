@@ -1,7 +1,7 @@
 -- Numbers stay within their widths.
 use Rattle.std.proofs.lemmas.Bool.{cond_both}
-use Rattle.sap_lemmas.proofs.Common.{◌≡◌, ℕ, zero, suc, ◌<◌, ◌^◌, true, List, [], ◌∷◌, get_or, sym, subst, inl, inr, cases_Bool}
-use Rattle.sap_meaning.specs.Prelude.{World, Entity, nothing, kind_is_input, is_input, width, Slot, Store, owner, number, same_slot, put_number, source, settle, Tagged, inputs_before, given, input_widths, AllFit, InputsFit}
+use Rattle.sap_lemmas.proofs.Common.{◌≡◌, ℕ, ◌<◌, ◌^◌, true, List, sym, subst}
+use Rattle.sap_meaning.specs.Prelude.{World, is_input, width, Slot, Store, owner, number, same_slot, put_number, source, settle, Tagged, given, InputsFit}
 use Rattle.sap_meaning.proofs.Fitting.{given_fits}
 use Rattle.sap_meaning.proofs.Slots.{slot_same, owner_source}
 use Rattle.sap_store.specs.declared.store.Store as kept
