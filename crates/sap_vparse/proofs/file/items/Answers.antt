@@ -1,12 +1,9 @@
-use Rattle.sap_lemmas.proofs.Common.{◌∙◌, ◌∷◌, [], List, refl, sym, subst, rules, append-nil}
+use Rattle.sap_lemmas.proofs.Common.{◌∙◌, ◌∷◌, [], List, refl, sym, subst, append-nil}
 use Rattle.sap_vtext.specs.Grammar as g
 use Rattle.sap_vtext.specs.Grammar.{AreItems}
 use Rattle.sap_vtext.specs.Items as item
-use Rattle.sap_vtext.specs.Tokens as t
-use Rattle.sap_vparse.specs.Table as s
 use Rattle.sap_vparse.specs.Views.{item_of, items_of}
-use Rattle.sap_vparse.proofs.Faults.{fault_goes}
-use Rattle.sap_vparse.proofs.ItemLaws.{items_end, items_more}
+use Rattle.sap_vparse.proofs.ItemLaws.{items_more}
 use Rattle.sap_vparse.proofs.Lists.{pushed}
 use Rattle.sap_walk.proofs.Walking.{bind_ok, bind_pure}
 use Rattle.sap_vparse.proofs.file.items.Goals as goal
@@ -26,18 +23,3 @@ returns-clause-tree c = record {
       (c.items.invariant.tree [] c.items.tokens g.no_item);
   close = subst (λ (q : List _). g.IsWord c.items.tokens _ q) (sym c.end.ensures.stays) c.in_ok-word.ensures.tree;
 }
-
-pub returns-in_err-next-clause-goes : goal.returns-in_err-next-clause-goes
-returns-in_err-next-clause-goes c =
-    fault_goes s.items s.item c.args.tokens.now c.items.tokens c.item.new.tokens _ c.in_err-next.field-0.0 c.from_residual.result (search rules)
-    (c.items.invariant.goes ∙ items_more c.items.tokens (c.items-test.ensures.no refl)) c.in_err-next.ensures.goes
-
-pub returns-in_err-word-clause-goes : goal.returns-in_err-word-clause-goes
-returns-in_err-word-clause-goes c =
-    fault_goes s.items (s.word t.endmodule_word) c.args.tokens.now c.items.tokens c.word.new.self _ c.in_err-word.field-0.0 c.from_residual-in_err-word.result (search rules)
-    (c.items.invariant.goes ∙ items_end c.items.tokens (c.items-test.ensures.yes refl)) c.in_err-word.ensures.goes
-
-pub returns-in_err-end-clause-goes : goal.returns-in_err-end-clause-goes
-returns-in_err-end-clause-goes c =
-    fault_goes s.items s.end c.args.tokens.now c.word.new.self c.end.new.tokens _ c.in_err-end.field-0.0 c.from_residual-in_err-end.result (search rules)
-    (c.items.invariant.goes ∙ items_end c.items.tokens (c.items-test.ensures.yes refl) ∙ bind_ok _ _ _ c.in_ok-word.ensures.goes) c.in_err-end.ensures.goes

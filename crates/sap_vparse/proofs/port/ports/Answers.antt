@@ -1,11 +1,8 @@
-use Rattle.sap_lemmas.proofs.Common.{◌∙◌, ◌∷◌, [], List, refl, subst, arith, rules, append-nil}
+use Rattle.sap_lemmas.proofs.Common.{◌∙◌, ◌∷◌, [], List, refl, subst, arith, append-nil}
 use Rattle.sap_vtext.specs.Grammar as g
 use Rattle.sap_vtext.specs.Grammar.{ArePorts}
 use Rattle.sap_vtext.specs.Items as item
-use Rattle.sap_vtext.specs.Tokens as t
-use Rattle.sap_vparse.specs.Table as s
 use Rattle.sap_vparse.specs.Views.{port_of, ports_of}
-use Rattle.sap_vparse.proofs.Faults.{fault_goes}
 use Rattle.sap_vparse.proofs.Laws.{ports_more}
 use Rattle.sap_vparse.proofs.Lists.{pushed}
 use Rattle.sap_walk.proofs.Walking.{bind_ok, bind_pure}
@@ -28,13 +25,3 @@ returns-clause-tree c = record {
       (c.ports.invariant.tree [] c.ports.tokens g.no_port);
   close = c.in_ok-sign-2.ensures.tree;
 }
-
-pub returns-in_err-sign-clause-goes : goal.returns-in_err-sign-clause-goes
-returns-in_err-sign-clause-goes c =
-    fault_goes s.ports (s.sign t.comma) c.args.tokens.now c.ports.tokens c.sign.new.self _ c.in_err-sign.field-0.0 c.from_residual.result (search rules)
-    (c.ports.invariant.goes ∙ ports_more c.ports.tokens (c.ports-test.ensures.yes refl)) c.in_err-sign.ensures.goes
-
-pub returns-in_err-next-clause-goes : goal.returns-in_err-next-clause-goes
-returns-in_err-next-clause-goes c =
-    fault_goes s.ports s.port c.args.tokens.now c.sign.new.self c.port.new.tokens _ c.in_err-next.field-0.0 c.from_residual-in_err-next.result (search rules)
-    (c.ports.invariant.goes ∙ ports_more c.ports.tokens (c.ports-test.ensures.yes refl) ∙ bind_ok _ _ _ c.in_ok-sign.ensures.goes) c.in_err-next.ensures.goes

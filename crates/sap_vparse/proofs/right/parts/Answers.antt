@@ -1,10 +1,10 @@
-use Rattle.sap_lemmas.proofs.Common.{◌∙◌, ◌++◌, ◌∷◌, [], refl, sym, ap, arith, rules, append-nil}
+use Rattle.sap_lemmas.proofs.Common.{◌∙◌, ◌++◌, ◌∷◌, [], refl, sym, ap, arith, append-nil}
 use Rattle.sap_vtext.specs.Grammar as g
 use Rattle.sap_vtext.specs.Tokens as t
 use Rattle.sap_vparse.specs.Table as s
 use Rattle.sap_vparse.specs.Views.{operand_of, operands_of}
 use Rattle.sap_vparse.specs.declared.items.Operand.{Operand}
-use Rattle.sap_vparse.proofs.Faults.{ends_with, fault_goes, if_ok}
+use Rattle.sap_vparse.proofs.Faults.{ends_with, if_ok}
 use Rattle.sap_vparse.proofs.Laws.{parts_end, parts_more}
 use Rattle.sap_vparse.proofs.Lists.{pushed}
 use Rattle.sap_walk.proofs.Walking.{bind_ok, bind_pure}
@@ -40,13 +40,3 @@ returns-clause-tree c =
       parts = h.2;
       close = close;
     }) c.sign-2.ensures.tree
-
-pub returns-in_err-sign-clause-goes : goal.returns-in_err-sign-clause-goes
-returns-in_err-sign-clause-goes c =
-    fault_goes s.parts (s.sign t.comma) c.args.tokens.now c.parts.tokens c.sign.new.self _ c.in_err-sign.field-0.0 c.from_residual.result (search rules)
-    (c.parts.invariant.goes ∙ parts_more c.parts.tokens (c.parts-test.ensures.yes refl)) c.in_err-sign.ensures.goes
-
-pub returns-in_err-next-clause-goes : goal.returns-in_err-next-clause-goes
-returns-in_err-next-clause-goes c =
-    fault_goes s.parts s.operand c.args.tokens.now c.sign.new.self c.operand.new.tokens _ c.in_err-next.field-0.0 c.from_residual-in_err-next.result (search rules)
-    (c.parts.invariant.goes ∙ parts_more c.parts.tokens (c.parts-test.ensures.yes refl) ∙ bind_ok _ _ _ c.in_ok-sign.ensures.goes) c.in_err-next.ensures.goes
