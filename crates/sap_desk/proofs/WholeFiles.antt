@@ -2,7 +2,7 @@
 use Rattle.sap_lemmas.proofs.Common.{◌≡◌, ℕ, ◌+◌, ◌<◌, ◌≤◌, Bool, true, false, cond, List, [], ◌++◌, length, take, refl, sym, ◌∙◌, ap, subst, arith, inl, inr, length-take, eqb, ltb, Option, Some, None, option_map, IfSome, unwrap_or, nat_tests, take_all, cases_eq}
 use Rattle.sap_desk.specs.Desk.{Told, Use, closed, writes, at_name, at_number, added, added_to, created, finished, blame_at, blamed, name_if_open, name_if_writing, IsOpen, IsWriting}
 use Rattle.sap_desk.specs.Cause.{Took, FailsToWrite}
-use Rattle.sap_desk.specs.Whole.{Between, IsFor, OneMore, SameChannels, Wrote, FailedWriting, FillsFile}
+use Rattle.sap_desk.specs.Whole.{Between, IsFor, OneMore, SameChannels, WritesOn, Wrote, FailedWriting, FillsFile}
 use Rattle.sap_desk.proofs.Steps.{at_number-keeps, at_number-same, at_number-twice, at_name-same, at_name-twice, other_number}
 
 -- a channel that wasn't open is none of those that were
@@ -29,6 +29,11 @@ same_channels channel u w t n above fresh room uses written = record {
 pub one_more : (channel : ℕ) (name : List ℕ) (u : Use) (t : Told) → 2 < channel → t.uses channel ≡ closed → IsFor name u
     → OneMore name t.uses (at_number channel u t.uses)
 one_more channel name u t above fresh is_for = record { channel = channel; above = above; fresh = fresh; use_now = u; is_for = is_for; uses = refl }
+
+-- it is open now for writing
+writes_on : (channel : ℕ) (name : List ℕ) (t : Told) → 2 < channel → t.uses channel ≡ closed
+    → WritesOn name t.uses (at_number channel (writes name) t.uses)
+writes_on channel name t above fresh = record { channel = channel; above = above; fresh = fresh; uses = refl }
 
 module _ (channel : ℕ) (name : List ℕ) (t : Told) (above : 2 < channel) where
   pub made_use : (created channel name t).uses channel ≡ writes name
@@ -73,24 +78,26 @@ module _ (channel : ℕ) (name bytes : List ℕ) (above : 2 < channel) where
   unfinished_one : (t : Told) → t.uses channel ≡ closed
       → FailedWriting name bytes t (blamed (name_if_open ((added channel bytes (created channel name t)).uses channel)) (added channel bytes (created channel name t)))
   unfinished_one t fresh = record {
-    files = inr (record {
-      count = length bytes;
-      within = omega arith;
-      files = made_files channel name t above bytes ∙ ap (λ (l : List ℕ). at_name name (Some l) t.files) (sym (take_all (length bytes) bytes (omega arith)));
-    });
+    left =
+        inr (
+          record {
+            count = length bytes;
+            within = omega arith;
+            files = made_files channel name t above bytes ∙ ap (λ (l : List ℕ). at_name name (Some l) t.files) (sym (take_all (length bytes) bytes (omega arith)));
+          },
+          writes_on channel name t above fresh,
+        );
     blame = ap name_if_open (made_use channel name t above);
     channels = same_channels channel (writes name) bytes t _ above fresh refl refl (written_is channel name t above bytes);
-    uses = inr (one_more channel name (writes name) t above fresh refl);
   }
 
   -- a write failed
   cut_one : (t : Told) (count : ℕ) → count ≤ length bytes → t.uses channel ≡ closed
       → FailedWriting name bytes t (blamed (name_if_writing ((created channel name t).uses channel)) (added channel (take count bytes) (created channel name t)))
   cut_one t count within fresh = record {
-    files = inr (record { count = count; within = within; files = made_files channel name t above (take count bytes) });
+    left = inr (record { count = count; within = within; files = made_files channel name t above (take count bytes) }, writes_on channel name t above fresh);
     blame = ap name_if_writing (made_use channel name t above);
     channels = same_channels channel (writes name) (take count bytes) t _ above fresh refl refl (written_is channel name t above (take count bytes));
-    uses = inr (one_more channel name (writes name) t above fresh refl);
   }
 
   pub wrote_all : (old one two new : Option Told) → IfSome old (λ t. t.uses channel ≡ closed)
@@ -118,17 +125,17 @@ module _ (channel : ℕ) (name bytes : List ℕ) (above : 2 < channel) where
   pub open_unfinished : (old one two new : Option Told) → IfSome old (λ t. t.uses channel ≡ closed)
       → one ≡ option_map (created channel name) old → two ≡ option_map (added channel bytes) one
       → new ≡ option_map (λ t. blame_at channel (name_if_open (t.uses channel)) t) two
-      → Between old new (λ t n. OneMore name t.uses n.uses)
+      → Between old new (λ t n. WritesOn name t.uses n.uses)
   open_unfinished None one two new fresh a b c = tt
   open_unfinished (Some t) one two new fresh a b c =
-      rw (c, b, a, blame_is channel name t above) (one_more channel name (writes name) t above fresh refl)
+      rw (c, b, a, blame_is channel name t above) (writes_on channel name t above fresh)
 
   pub open_unwritten : (old one new : Option Told) → IfSome old (λ t. t.uses channel ≡ closed)
       → one ≡ option_map (created channel name) old → Took channel bytes one new
-      → Between old new (λ t n. OneMore name t.uses n.uses)
+      → Between old new (λ t n. WritesOn name t.uses n.uses)
   open_unwritten None one new fresh a took = tt
   open_unwritten (Some t) one new fresh a took =
-      rw (took.told, a, blame_is channel name t above) (one_more channel name (writes name) t above fresh refl)
+      rw (took.told, a, blame_is channel name t above) (writes_on channel name t above fresh)
 
   -- a write of a file that was just made fails beyond the room, and then the file fills it
   fills_one : (t : Told) (new : Option Told) (count : ℕ) → count ≤ length bytes

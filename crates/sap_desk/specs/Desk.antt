@@ -9,7 +9,7 @@ pub data Use : Type 0 where
   -- before the first
   reads : (name : List ℕ) → (asked position : ℕ) → Use
   -- for writing the file of a name
-  writes : List ℕ → Use
+  writes : (name : List ℕ) → Use
   -- for writing a standard stream: channels 1 and 2
   stream : Use
 
@@ -41,9 +41,7 @@ bytes_of t name = unwrap_or (t.files name) []
 -- The bytes that a use has still to read.
 abbrev pub rest_of_use : Told → Use → List ℕ
 rest_of_use t (reads name asked position) = drop position (bytes_of t name)
-rest_of_use t (writes name) = []
-rest_of_use t closed = []
-rest_of_use t stream = []
+rest_of_use t _ = []
 
 -- The bytes that a channel has left to read.
 abbrev pub rest_of : Told → ℕ → List ℕ
@@ -52,23 +50,18 @@ rest_of t channel = rest_of_use t (t.uses channel)
 -- The use is open for reading.
 abbrev pub IsReading : Use → Type 0
 IsReading (reads name asked position) = Unit {0}
-IsReading (writes name) = ⊥
-IsReading closed = ⊥
-IsReading stream = ⊥
+IsReading _ = ⊥
 
 -- The use is open for writing a file or a standard stream.
 abbrev pub IsWriting : Use → Type 0
-IsWriting (reads name asked position) = ⊥
 IsWriting (writes name) = Unit {0}
-IsWriting closed = ⊥
 IsWriting stream = Unit {0}
+IsWriting _ = ⊥
 
 -- The use is open for reading or for writing.
 abbrev pub IsOpen : Use → Type 0
-IsOpen (reads name asked position) = Unit {0}
-IsOpen (writes name) = Unit {0}
 IsOpen closed = ⊥
-IsOpen stream = Unit {0}
+IsOpen _ = Unit {0}
 
 -- What a call makes of the desk where it answers Ok.
 
@@ -79,9 +72,7 @@ opened channel name t = record t { uses = at_number channel (reads name 0 0) t.u
 -- The use after a read that gave `count` bytes: the read was asked for at the position, which moves on by `count`.
 abbrev pub moved_use : ℕ → Use → Use
 moved_use count (reads name asked position) = reads name position (position + count)
-moved_use count (writes name) = writes name
-moved_use count closed = closed
-moved_use count stream = stream
+moved_use count u = u
 
 -- `read` was asked for at the channel's position, which moves on by the bytes that it gave. A failed read gave none.
 abbrev pub moved : ℕ → ℕ → Told → Told
@@ -92,9 +83,7 @@ moved channel count t = record t { uses = at_number channel (moved_use count (t.
 abbrev pub read_on_use : (asked : Option ℕ) → (count : ℕ) → Use → Use
 read_on_use None count (reads name last position) = reads name last (position + count)
 read_on_use (Some few) count (reads name last position) = reads name (position + few) (position + count)
-read_on_use asked count (writes name) = writes name
-read_on_use asked count closed = closed
-read_on_use asked count stream = stream
+read_on_use asked count u = u
 
 -- The state after any number of reads on one channel, as in `read_on_use`.
 abbrev pub read_on : (channel : ℕ) → (asked : Option ℕ) → (count : ℕ) → Told → Told
@@ -110,10 +99,8 @@ created channel name t = record t {
 
 -- The files after a piece was written by a use.
 abbrev pub added_to : Use → List ℕ → (List ℕ → Option (List ℕ)) → List ℕ → Option (List ℕ)
-added_to (reads name asked position) piece files = files
 added_to (writes name) piece files = at_name name (Some (unwrap_or (files name) [] ++ piece)) files
-added_to closed piece files = files
-added_to stream piece files = files
+added_to _ piece files = files
 
 -- `write` adds the piece to the channel, and to the channel's file if the channel is above 2.
 abbrev pub added : ℕ → List ℕ → Told → Told
@@ -141,23 +128,18 @@ blame_at channel name t = cond (eqb channel 2) t (blamed (cond (eqb channel 1) (
 -- The file that a use reads.
 abbrev pub name_if_reading : Use → List ℕ
 name_if_reading (reads name asked position) = name
-name_if_reading (writes name) = []
-name_if_reading closed = []
-name_if_reading stream = []
+name_if_reading _ = []
 
 -- The file that a use writes.
 abbrev pub name_if_writing : Use → List ℕ
-name_if_writing (reads name asked position) = []
 name_if_writing (writes name) = name
-name_if_writing closed = []
-name_if_writing stream = []
+name_if_writing _ = []
 
 -- The file of a use.
 abbrev pub name_if_open : Use → List ℕ
 name_if_open (reads name asked position) = name
 name_if_open (writes name) = name
-name_if_open closed = []
-name_if_open stream = []
+name_if_open _ = []
 
 -- What `f` gives for the k-th item of a list, or `none` past its end.
 abbrev pub placed : {X A : Type 0} → (X → A) → A → List X → ℕ → A

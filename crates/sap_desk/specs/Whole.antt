@@ -23,8 +23,7 @@ pub record SameChannels (t n : Told) : Type 0 where
 abbrev pub IsFor : List ℕ → Use → Type 0
 IsFor name (reads owner asked position) = owner ≡ name
 IsFor name (writes owner) = owner ≡ name
-IsFor name closed = ⊥
-IsFor name stream = ⊥
+IsFor name _ = ⊥
 
 -- A channel that wasn't open is open for the file of a name, and every other is as before.
 pub record OneMore (name : List ℕ) (before after : ℕ → Use) : Type 0 where
@@ -39,6 +38,13 @@ pub record OneMore (name : List ℕ) (before after : ℕ → Use) : Type 0 where
 -- has one.
 abbrev pub OpenAfterFault : (name : List ℕ) → (before after : ℕ → Use) → Type 0
 OpenAfterFault name before after = (after ≡ before) ⊎ OneMore name before after
+
+-- A channel that wasn't open writes the file of a name, and every other is as before.
+pub record WritesOn (name : List ℕ) (before after : ℕ → Use) : Type 0 where
+  pub channel : ℕ
+  pub above : 2 < channel
+  pub fresh : before channel ≡ closed
+  pub uses : after ≡ at_number channel (writes name) before
 
 -- A call failed at the file of a name, which is there: its channel is still open, since no further call is made.
 abbrev pub LeftOpen : List ℕ → Told → Told → Type 0
@@ -122,12 +128,12 @@ pub record WrotePrefix (name bytes : List ℕ) (t n : Told) : Type 0 where
   pub within : count ≤ length bytes
   pub files : n.files ≡ at_name name (Some (take count bytes)) t.files
 
--- A call failed that writes the file of a name: the files are as before, or that one has a prefix.
+-- A call failed that writes the file of a name. It could not be made, and all is as before; or it has a prefix of the
+-- bytes, and its channel is still open.
 pub record FailedWriting (name bytes : List ℕ) (t n : Told) : Type 0 where
-  pub files : (n.files ≡ t.files) ⊎ WrotePrefix name bytes t n
+  pub left : ((n.files ≡ t.files) × (n.uses ≡ t.uses)) ⊎ (WrotePrefix name bytes t n × WritesOn name t.uses n.uses)
   pub blame : n.blame ≡ name
   pub channels : SameChannels t n
-  pub uses : OpenAfterFault name t.uses n.uses
 
 -- Why writing a file fails at a sure desk: it is longer than the room, which it fills.
 pub record FillsFile (name bytes : List ℕ) (t n : Told) : Type 0 where

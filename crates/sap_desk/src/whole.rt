@@ -2,7 +2,7 @@
 ghost use Rattle.std.specs.Prelude.{◌≡◌, ◌⊎◌, ◌+◌, ◌<◌, ◌≤◌, ◌^◌, ℕ, min, Some, None, length, IfOk, OnOk, IfSome, IsErrOf};
 ghost use Rattle.sap_desk.specs.Desk.{at_number, rest_of, blamed, IsReading};
 ghost use Rattle.sap_desk.specs.Cause.{CountsOpen};
-ghost use Rattle.sap_desk.specs.Whole.{Between, FailedReading, IsFront, IsFrontOf, LeftOpen, MissingOrFar, MissingOrLong, OneMore, ReadTo, StoodWithin, Wrote, FailedWriting, FillsFile};
+ghost use Rattle.sap_desk.specs.Whole.{Between, FailedReading, IsFront, IsFrontOf, LeftOpen, MissingOrFar, MissingOrLong, ReadTo, StoodWithin, Wrote, WritesOn, FailedWriting, FillsFile};
 
 use crate::{Bytes, Desk, DeskError};
 use std::alloc::Global;
@@ -99,7 +99,7 @@ pub fn write_file<D: Desk>(desk: &mut D, name: &str, bytes: &[u8]) -> Result<(),
     ensures counts { CountsOpen (D.faults desk.old) (D.faults desk.new) (D.lost desk.old) (D.lost desk.new) result }
     ensures sure { D.sure desk.old → D.sure desk.new }
     ensures cause { IsErrOf result DeskError.Failed → D.sure desk.old → Between (D.told desk.old) (D.told desk.new) (FillsFile name.now bytes.now) }
-    ensures open { IsErrOf result DeskError.Failed → D.sure desk.old → Between (D.told desk.old) (D.told desk.new) (λ t n. OneMore name.now t.uses n.uses) }
+    ensures open { IsErrOf result DeskError.Failed → D.sure desk.old → Between (D.told desk.old) (D.told desk.new) (λ t n. WritesOn name.now t.uses n.uses) }
 {
     let channel = desk.create(name)?;
     desk.write(channel, bytes)?;

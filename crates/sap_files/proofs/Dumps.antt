@@ -60,7 +60,7 @@ wrote_left name text F t n never w = record {
   shows = (refl, refl);
   blames = w.blame;
   stands = w.uses;
-  same = record { lines = w.channels.lines; lines_use = w.channels.lines_use; room = w.channels.room };
+  same = record { lines = w.channels.lines; lines_use = w.channels.lines_use; others = λ k other. w.channels.open_written k; room = w.channels.room };
   cause = inr refl;
   outside = λ rose. absurd (never rose);
 }

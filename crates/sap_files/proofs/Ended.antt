@@ -21,7 +21,7 @@ between_from : (P : Told → Told → Type 0) (old mid new : Option Told) → mi
 between_from P old mid new is b = subst (λ (o : Option Told). Between o new P) is b
 
 same_self : (t : Told) → Same t t
-same_self t = record { lines = refl; lines_use = refl; room = refl }
+same_self t = record { lines = refl; lines_use = refl; others = λ k other open_now. refl; room = refl }
 
 between_self : (P : Told → Told → Type 0) (old new : Option Told) → ((t : Told) → P t t) → new ≡ old → Between old new P
 between_self P None new h is = tt
@@ -309,13 +309,16 @@ fills name text t n full room =
 cut_left : (name text : List ℕ) (F : Type 0) (t n : Told) → FailedWriting name text t n → (F → FillsFile name text t n)
     → Left (writes name (λ x. x ≡ text)) (failed name) F t n
 cut_left name text F t n cut full = record {
-  leaves = elim cut.files [ inl before ↦ inl before | inr part ↦ inr (refl, (text, take part.count text, refl, (part.count, part.within, refl), part.files)) ];
+  leaves = elim cut.left [
+    | inl before ↦ inl before.0
+    | inr (part, open_now) ↦ inr (refl, (text, take part.count text, refl, (part.count, part.within, refl), part.files))
+  ];
   gained = [];
   output = cut.channels.output ∙ sym (append-nil (t.written 1));
   shows = inl refl;
   blames = cut.blame;
-  stands = (refl, refl, cut.uses);
-  same = record { lines = cut.channels.lines; lines_use = cut.channels.lines_use; room = cut.channels.room };
+  stands = (refl, refl, elim cut.left [ inl before ↦ inl before.1 | inr now ↦ inr now.1 ]);
+  same = record { lines = cut.channels.lines; lines_use = cut.channels.lines_use; others = λ k other. cut.channels.open_written k; room = cut.channels.room };
   cause = inl tt;
   outside = λ rose. fills name text t n (full rose) cut.channels.room;
 }

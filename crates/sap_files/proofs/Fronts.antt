@@ -75,7 +75,7 @@ not_read : (most : Option ℕ) (name : List ℕ) (F : Type 0) (t n : Told) → F
 not_read most name F t n r stood why = record {
   files = r.files;
   output = r.channels.output;
-  same = record { lines = r.channels.lines; lines_use = r.channels.lines_use; room = r.channels.room };
+  same = record { lines = r.channels.lines; lines_use = r.channels.lines_use; others = λ k other. r.channels.open_written k; room = r.channels.room };
   blames = r.blame;
   opens = (refl, stood);
   outside = why;

@@ -1,9 +1,15 @@
 -- A text was written on channel 1, whole or cut off.
-use Rattle.sap_lemmas.proofs.Common.{◌≡◌, ◌≤◌, ℕ, List, length, take, refl, sym, subst, inl, inr, Option, Some, None, IfSome, codes, option_map}
+use Rattle.sap_lemmas.proofs.Common.{◌≡◌, ◌≢◌, ◌≤◌, ℕ, Bool, false, cond, eqb, List, ◌++◌, length, take, refl, sym, ap, subst, inl, inr, Option, Some, None, IfSome, codes, option_map, arith, nat_tests}
 use Rattle.sap_desk.specs.Desk.{Told, IsWriting, added, blamed}
 use Rattle.sap_desk.specs.Cause.{FillsRoom, counted}
 use Rattle.sap_desk.specs.Whole.{Between, CutOutput}
 use Rattle.sap_files.specs.Prelude.{gives, done, failed, Ends, FaultRose, Left, Moment}
+
+-- a piece on channel 1 is on no other
+other_added : (piece : List ℕ) (t : Told) (k : ℕ) → k ≢ 1 → (added 1 piece t).written k ≡ t.written k
+other_added piece t k other =
+    let no : eqb k 1 ≡ false = grind (arith, nat_tests) in
+    ap (λ (b : Bool). cond b (t.written 1 ++ piece) (t.written k)) no
 
 module _ (text : List ℕ) where
   whole_left : (F : Type 0) (t : Told) → (F → ⊥) → Left (gives (λ x. x ≡ text)) done F t (added 1 text t)
@@ -14,7 +20,7 @@ module _ (text : List ℕ) where
     shows = (refl, refl);
     blames = refl;
     stands = refl;
-    same = record { lines = refl; lines_use = refl; room = refl };
+    same = record { lines = refl; lines_use = refl; others = λ k other open_now. other_added text t k other; room = refl };
     cause = inr refl;
     outside = λ rose. absurd (never rose);
   }
@@ -46,7 +52,7 @@ module _ (text : List ℕ) where
     shows = inr (text, (done, (refl, refl)), (count, within, refl));
     blames = refl;
     stands = (refl, refl);
-    same = record { lines = refl; lines_use = refl; room = refl };
+    same = record { lines = refl; lines_use = refl; others = λ k other open_now. other_added (take count text) t k other; room = refl };
     cause = inl tt;
     outside = λ rose is. (full rose (subst IsWriting (sym is) tt)).full;
   }

@@ -71,7 +71,7 @@ module _ (shows : Shows) (ls : Levels) (fs : List Field) (name : List ℕ) where
     shows = shows_end t p.gained fault p.bytes p.file p.is_fault p.shown;
     blames = blames_end t.blame n.blame fault p.blame;
     stands = stands_end t fault p.gained t.uses n.uses p.uses;
-    same = record { lines = p.grew.lines; lines_use = ap (λ (u : ℕ → Use). u 2) p.uses; room = p.grew.room };
+    same = record { lines = p.grew.lines; lines_use = ap (λ (u : ℕ → Use). u 2) p.uses; others = λ k other open_now. p.grew.others k other; room = p.grew.room };
     cause = inr (p.bytes, p.file, ap end_of p.is_fault);
     outside = λ rose. absurd (never rose);
   }
@@ -108,7 +108,12 @@ module _ (shows : Shows) (ls : Levels) (fs : List Field) (name : List ℕ) where
     shows = cut_of whole s.stays.bytes s.gained t s.stays.file s.part;
     blames = s.blame;
     stands = inr (why, refl, s.stays, whole (take s.stays.position s.stays.bytes) s.gained s.part_read);
-    same = record { lines = s.grew.lines; lines_use = stays_lines why name text faults_of t s.gained t.uses n.uses s.stays; room = s.grew.room };
+    same = record {
+      lines = s.grew.lines;
+      lines_use = stays_lines why name text faults_of t s.gained t.uses n.uses s.stays;
+      others = λ k other open_now. s.grew.others k other;
+      room = s.grew.room;
+    };
     cause = inl tt;
     outside = outside;
   }
@@ -122,7 +127,12 @@ module _ (shows : Shows) (ls : Levels) (fs : List Field) (name : List ℕ) where
     shows = inl refl;
     blames = ap (λ (x : Told). x.blame) is;
     stands = inl (refl, refl, ap (λ (x : Told). x.uses) is);
-    same = record { lines = ap (λ (x : Told). x.written 2) is; lines_use = ap (λ (x : Told). x.uses 2) is; room = ap (λ (x : Told). x.room) is };
+    same = record {
+      lines = ap (λ (x : Told). x.written 2) is;
+      lines_use = ap (λ (x : Told). x.uses 2) is;
+      others = λ k other open_now. ap (λ (x : Told). x.written k) is;
+      room = ap (λ (x : Told). x.room) is;
+    };
     cause = inl tt;
     outside = outside;
   }

@@ -1,7 +1,7 @@
 -- What stands after a command by its ending: which file is blamed, what is open, and what a failed call left.
 use Rattle.std.specs.Prelude.{◌≡◌, ◌⊎◌, ℕ, List, [], take, codes}
 use Rattle.sap_desk.specs.Desk.{Told, Use}
-use Rattle.sap_desk.specs.Whole.{OpenAfterFault, OpenWithin}
+use Rattle.sap_desk.specs.Whole.{OpenWithin, WritesOn}
 use Rattle.sap_lines.specs.Stepping.Followed.{blamed_for}
 use Rattle.sap_lines.specs.Stepping.Pace.{Prints}
 use Rattle.sap_lines.specs.Stepping.Printed.{StaysOpen}
@@ -40,7 +40,7 @@ StandsFailed (prints name text fault) t blamed gained before after =
     × (stays : StaysOpen why name text fault t gained before after)
     × IsBegun text (take stays.position stays.bytes) gained)
 StandsFailed (writes name text) t blamed gained before after =
-    (blamed ≡ name) × (gained ≡ []) × OpenAfterFault name before after
+    (blamed ≡ name) × (gained ≡ []) × ((after ≡ before) ⊎ WritesOn name before after)
 StandsFailed (stops why) t blamed gained before after = ⊥
 
 -- What is open after a command that wrote `gained` on standard output, and how far it is read. All is as before, unless

@@ -1,5 +1,5 @@
 -- Two streams of a design compared at a level: the level, where they first don't agree, and what is told.
-use Rattle.std.specs.Prelude.{◌≡◌, ◌⊎◌, ℕ, Bool, true, false, List, [], ◌∷◌, ◌++◌, length, get_or, codes, Option, Some, None, Result, Ok, Err, if◌then◌else◌}
+use Rattle.std.specs.Prelude.{◌≡◌, ◌⊎◌, ℕ, Bool, true, false, List, [], ◌++◌, length, get_or, map, filter, codes, Option, Some, None, Result, Ok, Err}
 use Rattle.std.specs.Fmt.{decimal}
 use Rattle.sap_lattice.specs.Levels.{Levels, level_named, order_of}
 use Rattle.sap_lattice.specs.Order.{Order}
@@ -22,19 +22,14 @@ abbrev pub IsVerdict : Order → (l : ℕ) → (one other : List (List Tagged)) 
 IsVerdict o l one other None = StreamsAgree o l one other
 IsVerdict o l one other (Some apart) = IsApart o l one other apart
 
--- the names of a design's inputs, in the order of declaration
-
 -- The entity is an input.
 abbrev pub is_input : Declared → Bool
 is_input (what.Input width) = true
-is_input (what.Register width) = false
-is_input (what.Memory width depth) = false
-is_input what.State = false
+is_input _ = false
 
--- The names of the inputs.
+-- The names of the inputs, in the order of declaration.
 abbrev pub input_names : List Entity → List (List ℕ)
-input_names [] = []
-input_names (e ∷ es) = if is_input e.what then e.name.name ∷ input_names es else input_names es
+input_names es = map (λ e. e.name.name) (filter (λ e. is_input e.what) es)
 
 -- The name of the input at a place, the places being counted from 0.
 abbrev pub input_name : DesignTree → (place : ℕ) → List ℕ

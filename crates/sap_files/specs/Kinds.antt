@@ -3,30 +3,23 @@ use Rattle.std.specs.Prelude.{◌≡◌, ℕ, List, Option, Some, None, Ok, Err}
 use Rattle.sap_desk.specs.Desk.{Told}
 use Rattle.sap_lattice.specs.Levels.{Levels}
 use Rattle.sap_latfile.specs.LatticeFile.{FirstFault}
-use Rattle.sap_latfile.specs.declared.fault.LatFileFault.{LatFileFault}
 use Rattle.sap_tree.specs.Syntax.{DesignTree}
 use Rattle.sap_parse.specs.Limits.{most_bytes}
 use Rattle.sap_parse.specs.Text.{IsText, IsReadFault}
-use Rattle.sap_lex.specs.declared.fault.ReadFault.{ReadFault}
 use Rattle.sap_meaning.specs.Cycle.{Tagged}
-use Rattle.sap_stim.specs.declared.fault.StimFault.{StimFault}
 use Rattle.sap_stim.specs.declared.stimulus.Parsed.{Parsed}
 use Rattle.sap_sim.specs.Labelled.RunOf.{read_for}
 use Rattle.sap_sim.specs.Simulated.{read_for as read_for_module}
 use Rattle.sap_net.specs.Net.{Net}
 use Rattle.sap_vtext.specs.Modules.{IsModule}
 use Rattle.sap_vread.specs.ModuleFault.{IsModuleFault}
-use Rattle.sap_vread.specs.declared.fault.ModFault.{ModFault}
 use Rattle.sap_wave.specs.Dumps.{IsReading}
 use Rattle.sap_wave.specs.Read.{IsWaveFault}
 use Rattle.sap_wave.specs.Waves.{Wave}
-use Rattle.sap_wave.specs.declared.fault.WaveFault.{WaveFault}
 use Rattle.sap_machine.specs.Assembly.{assembled}
-use Rattle.sap_machine.specs.declared.fault.AsmFault.{AsmFault}
 use Rattle.sap_files.specs.Contents.{IsLatticeFile, IsWellFormedText}
 use Rattle.sap_files.specs.DesignFaults.{IsDesignFault}
 use Rattle.sap_files.specs.StimulusTexts.{IsWholeStream}
-use Rattle.sap_files.specs.declared.fault.DesignFault.{DesignFault}
 use Rattle.sap_files.specs.declared.fault.DesignFault.TheVariants as design_fault
 use Rattle.sap_files.specs.Ending.{Refusal, lattice_refused, design_refused, stimulus_refused, module_refused, wave_refused, asm_refused}
 
@@ -50,13 +43,17 @@ pub record IsRefused (t : Told) (name : List ℕ) (k : Kind) (why : Refusal) : T
   pub file : t.files name ≡ Some bytes
   pub refused : k.Refused bytes why
 
+-- A file of a kind is refused for a fault of its bytes; `case_of` is the refusal of a fault.
+abbrev pub refused_as : {F : Type 0} → (F → Refusal) → (List ℕ → F → Type 0) → List ℕ → Refusal → Type 0
+refused_as {F} case_of IsFaultOf bytes why = (fault : F) × (why ≡ case_of fault) × IsFaultOf bytes fault
+
 -- Lattice files.
 abbrev pub lattice_file : Kind
 lattice_file = record {
   most = None;
   Value = Levels;
   Stands = IsLatticeFile;
-  Refused = λ bytes why. (fault : LatFileFault) × (why ≡ lattice_refused fault) × FirstFault bytes fault;
+  Refused = refused_as lattice_refused FirstFault;
 }
 
 -- Design files whose design is well formed over the levels of a lattice. They are read no further than shows that they
@@ -66,7 +63,7 @@ design_file ls = record {
   most = Some most_bytes;
   Value = DesignTree;
   Stands = IsWellFormedText ls;
-  Refused = λ source why. (fault : DesignFault) × (why ≡ design_refused fault) × IsDesignFault ls source fault;
+  Refused = refused_as design_refused (IsDesignFault ls);
 }
 
 -- Design files without a lattice: the text of a design within the limits.
@@ -75,8 +72,7 @@ design_text_file = record {
   most = Some most_bytes;
   Value = DesignTree;
   Stands = IsText;
-  Refused = λ source why. (fault : ReadFault) × (why ≡ design_refused (design_fault.Read fault))
-      × IsReadFault source fault;
+  Refused = refused_as (λ fault. design_refused (design_fault.Read fault)) IsReadFault;
 }
 
 -- Module files.
@@ -85,10 +81,8 @@ module_file = record {
   most = None;
   Value = Net;
   Stands = IsModule;
-  Refused = λ text why. (fault : ModFault) × (why ≡ module_refused fault) × IsModuleFault text fault;
+  Refused = refused_as module_refused IsModuleFault;
 }
-
--- Stimulus files whose every line is taken, the first or the second of the words, by what bytes are read as.
 
 -- The kind of a stimulus file, the first or the second of the arguments: every line is taken. `read` is how bytes are
 -- parsed.
@@ -97,7 +91,7 @@ stream_by place read = record {
   most = None;
   Value = List (List Tagged);
   Stands = IsWholeStream read;
-  Refused = λ bytes why. (fault : StimFault) × (why ≡ stimulus_refused place fault) × ((read bytes).fault ≡ Some fault);
+  Refused = refused_as (stimulus_refused place) (λ bytes fault. (read bytes).fault ≡ Some fault);
 }
 
 -- The kind of a stimulus file of a design.
@@ -114,7 +108,7 @@ wave_file = record {
   most = None;
   Value = Wave;
   Stands = IsReading;
-  Refused = λ bytes why. (fault : WaveFault) × (why ≡ wave_refused fault) × IsWaveFault bytes fault;
+  Refused = refused_as wave_refused IsWaveFault;
 }
 
 -- The kind of an assembly file, the first or the second of the arguments: it stands for its sixteen machine words.
@@ -123,5 +117,5 @@ assembly_file place = record {
   most = None;
   Value = List ℕ;
   Stands = λ text words. assembled text ≡ Ok words;
-  Refused = λ text why. (fault : AsmFault) × (why ≡ asm_refused place fault) × (assembled text ≡ Err fault);
+  Refused = refused_as (asm_refused place) (λ text fault. assembled text ≡ Err fault);
 }

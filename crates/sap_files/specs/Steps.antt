@@ -1,6 +1,6 @@
 -- What the steps of a command leave: the words of the contracts of its calls.
 use Rattle.std.specs.Prelude.{◌≡◌, ◌≢◌, ◌⊎◌, ◌++◌, ℕ, List, length, Option, Some, None, Result, Ok, Err, IfSome}
-use Rattle.sap_desk.specs.Desk.{Told, Use}
+use Rattle.sap_desk.specs.Desk.{Told, Use, IsOpen}
 use Rattle.sap_desk.specs.Cause.{counted}
 use Rattle.sap_desk.specs.Whole.{Between, IsFront, OpenWithin}
 use Rattle.sap_lattice.specs.Levels.{Levels, order_of}
@@ -128,6 +128,7 @@ Counted faults now no_memory = now ≡ faults
 pub record Same (t n : Told) : Type 0 where
   pub lines : n.written 2 ≡ t.written 2
   pub lines_use : n.uses 2 ≡ t.uses 2
+  pub others : (k : ℕ) → k ≢ 1 → IsOpen (t.uses k) → n.written k ≡ t.written k
   pub room : n.room ≡ t.room
 
 -- What a command left that ended so.

@@ -16,15 +16,7 @@ use Rattle.sap_fold.specs.declared.rules.Outcome.TheVariants.{Keep, Condition, F
 -- The first outcome that changes something.
 abbrev pub or_else : Outcome → Outcome → Outcome
 or_else Keep g = g
-or_else Condition g = Condition
-or_else First g = First
-or_else Second g = Second
-or_else (Number n) g = Number n
-or_else NotCondition g = NotCondition
-or_else NotFirst g = NotFirst
-or_else NotSecond g = NotSecond
-or_else ConditionAndFirst g = ConditionAndFirst
-or_else ConditionOrSecond g = ConditionOrSecond
+or_else f g = f
 
 -- The operand is a constant of this number.
 abbrev pub is_number : Operand → ℕ → Bool
@@ -48,9 +40,8 @@ is_full (Constant w n) = fits w n && n == 2 ^ w - 1
 -- The two operands are the same name or the same constant.
 abbrev pub same_operand : Operand → Operand → Bool
 same_operand (Named x) (Named y) = bytes_eq x y
-same_operand (Named x) (Constant w n) = false
-same_operand (Constant w n) (Named y) = false
 same_operand (Constant w n) (Constant u m) = w == u && n == m
+same_operand _ _ = false
 
 -- What an operator of one operand gives: a number, if the operand is a constant.
 abbrev pub fold_one : Op1 → Operand → Outcome
@@ -67,8 +58,7 @@ is_second _ w n = fits w n
 abbrev pub fold_constants : Op2 → Operand → Operand → Outcome
 fold_constants op (Constant w n) (Constant u m) =
     if fits w n && is_second op w m then Number (value2 op w n m) else Keep
-fold_constants op (Named x) b = Keep
-fold_constants op (Constant w n) (Named y) = Keep
+fold_constants op _ _ = Keep
 
 -- What the conjunction of two operands is, where it is known.
 abbrev pub fold_and : Operand → Operand → Outcome

@@ -3,7 +3,7 @@
 ghost use Rattle.std.specs.Prelude.{◌≡◌, ◌++◌, ◌<◌, ◌≤◌, ℕ, List, [], OnOk, OnErr, IfSome, IsErrOf, option_map};
 ghost use Rattle.sap_desk.specs.Cause.{CountsAt, CountsOpen, FailsToWrite, FillsRoom};
 ghost use Rattle.sap_desk.specs.Desk.{IsWriting, added};
-ghost use Rattle.sap_desk.specs.Whole.{Between, CountsFailed, CutOutput, FailedWriting, FillsFile, OneMore, Wrote};
+ghost use Rattle.sap_desk.specs.Whole.{Between, CountsFailed, CutOutput, FailedWriting, FillsFile, WritesOn, Wrote};
 ghost use Rattle.sap_pieces.specs.Written.{CutOff};
 ghost use Rattle.sap_pieces.specs.declared.TheConstants.{LARGE_BYTES};
 
@@ -96,7 +96,7 @@ pub fn write_pieces<D: Desk, P: Pieces>(
     ensures counts { CountsOpen (D.faults desk.old) (D.faults desk.new) (D.lost desk.old) (D.lost desk.new) result }
     ensures sure { D.sure desk.old → D.sure desk.new }
     ensures cause { IsErrOf result DeskError.Failed → D.sure desk.old → (text : List ℕ) → P.comes pieces.old text → Between (D.told desk.old) (D.told desk.new) (FillsFile name.now (beginning.now ++ text)) }
-    ensures open { IsErrOf result DeskError.Failed → D.sure desk.old → Between (D.told desk.old) (D.told desk.new) (λ t n. OneMore name.now t.uses n.uses) }
+    ensures open { IsErrOf result DeskError.Failed → D.sure desk.old → Between (D.told desk.old) (D.told desk.new) (λ t n. WritesOn name.now t.uses n.uses) }
 {
     let channel = desk.create(name)?;
     write_behind(desk, channel, beginning, pieces, waiting)?;

@@ -49,13 +49,10 @@ abbrev pub suits : Manner → Shape → Bool
 suits as_value (memory width depth) = false
 suits as_value _ = true
 suits as_cell (memory width depth) = true
-suits as_cell _ = false
 suits as_wire (wire width) = true
-suits as_wire _ = false
 suits as_register (register width) = true
-suits as_register _ = false
 suits as_memory (memory width depth) = true
-suits as_memory _ = false
+suits _ _ = false
 
 -- The constant in an operand.
 abbrev pub operand_constants : Operand → List Constant

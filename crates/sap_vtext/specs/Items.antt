@@ -30,10 +30,10 @@ pub data Right : Type 0 where
   copy : Operand → Right
   one : Op1 → Operand → Right
   two : Op2 → Operand → Operand → Right
-  choose : Operand → Operand → Operand → Right
+  choose : (condition first second : Operand) → Right
   concat : List Operand → Right
-  slice : Mention → ℕ → ℕ → Right
-  cell : Mention → Operand → Right
+  slice : (name : Mention) → (high low : ℕ) → Right
+  cell : (memory : Mention) → (index : Operand) → Right
 
 -- The kind of a port: an input, a register or a wire that is shown.
 pub data Direction : Type 0 where
@@ -45,20 +45,18 @@ pub record Port : Type 0 where
   pub range : Number
   pub name : Mention
 
--- An item: `wire [range:0] name`, `reg [range:0] name`, `reg [range:0] name [0:last]`, `integer i` with its first
--- place, `assign name = right`, `initial name = value`, the `for` of a memory's first contents with the place of its
--- first `i`, its bound, the memory and the value, `always name <= next`, and `always` of a memory with its condition,
--- the memory, the index and the value.
+-- An item: `wire [range:0] name`, `reg [range:0] name`, `reg [range:0] name [0:last]`, `integer i`, `assign name =
+-- right`, `initial name = value`, the `for` of a memory's first contents, `always name <= next`, and `always` of a
+-- memory. A place is that of the item's first `i`.
 pub data Item : Type 0 where
-  wire : Number → Mention → Item
-  register : Number → Mention → Item
-  memory : Number → Mention → Number → Item
-  integer : ℕ → Item
-  assign : Mention → Right → Item
-  initial : Mention → Constant → Item
-  initial_cells : ℕ → Number → Mention → Constant → Item
-  always : Mention → Operand → Item
-  always_cell : Operand → Mention → Operand → Operand → Item
+  wire register : (range : Number) (name : Mention) → Item
+  memory : (range : Number) (name : Mention) (last : Number) → Item
+  integer : (place : ℕ) → Item
+  assign : (name : Mention) (right : Right) → Item
+  initial : (name : Mention) (value : Constant) → Item
+  initial_cells : (place : ℕ) (bound : Number) (memory : Mention) (value : Constant) → Item
+  always : (name : Mention) (next : Operand) → Item
+  always_cell : (condition : Operand) (memory : Mention) (index value : Operand) → Item
 
 -- A module: its name, its ports and its items.
 pub record File : Type 0 where

@@ -9,8 +9,8 @@ use Rattle.sap_vtext.specs.Items as item
 
 -- A name is declared as an input, a wire or a register with its width, or as a memory with its width and depth.
 pub data Shape : Type 0 where
-  input wire register : ℕ → Shape
-  memory : ℕ → ℕ → Shape
+  input wire register : (width : ℕ) → Shape
+  memory : (width depth : ℕ) → Shape
 
 -- A declared name and its shape.
 pub record Declaration : Type 0 where

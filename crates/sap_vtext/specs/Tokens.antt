@@ -11,14 +11,13 @@ pub data Sign : Type 0 where
   open_paren close_paren open_brace close_brace open_bracket close_bracket comma semicolon colon question at is : Sign
   equal not_equal less less_or_equal shift_left shift_right plus minus star ampersand bar caret tilde : Sign
 
--- A token is a keyword; a sign; a name, which is no keyword; a number, with how many digits it is written; or a
--- constant of a width and a number.
+-- A token is a keyword, a sign, a name, which is no keyword, a number or a constant.
 pub data Kind : Type 0 where
   word : Word → Kind
   sign : Sign → Kind
   name : List ℕ → Kind
-  number : ℕ → ℕ → Kind
-  constant : ℕ → ℕ → Kind
+  number : (value digits : ℕ) → Kind
+  constant : (width value : ℕ) → Kind
 
 -- A token is of a kind, and its place is how many bytes of the text come before it.
 pub record Token : Type 0 where

@@ -75,24 +75,17 @@ pub data Rule : Type 0 where
 abbrev pub unary_rule : Op1 → Rule
 unary_rule unary.Not = all_equal
 unary_rule unary.Neg = all_equal
-unary_rule unary.AllOnes = compared
-unary_rule unary.AnyOne = compared
-unary_rule unary.Odd = compared
+unary_rule _ = compared
 
 -- The width rule of an operator of two operands.
 abbrev pub binary_rule : Op2 → Rule
-binary_rule binary.Add = all_equal
-binary_rule binary.Sub = all_equal
-binary_rule binary.Mul = all_equal
-binary_rule binary.And = all_equal
-binary_rule binary.Or = all_equal
-binary_rule binary.Xor = all_equal
 binary_rule binary.Eq = compared
 binary_rule binary.Ne = compared
 binary_rule binary.Lt = compared
 binary_rule binary.Le = compared
 binary_rule binary.Shl = first_only
 binary_rule binary.Shr = first_only
+binary_rule _ = all_equal
 
 -- Pairs of widths that have to be equal where both are known.
 abbrev pub Pairs : Type 0

@@ -19,7 +19,7 @@ use Rattle.sap_lines.specs.Stepping.Cycles.{CyclesShown}
 use Rattle.sap_lines.specs.Stepping.Followed.{Going, last_place}
 use Rattle.sap_lines.specs.Stepping.Pace.{IsNeeded, IsWritten, Shows, printed_fault, printed_text}
 use Rattle.sap_lines.proofs.stepping.Between.{knowing_two}
-use Rattle.sap_lines.proofs.stepping.Going.{going_more, going_none, rest_now}
+use Rattle.sap_lines.proofs.stepping.Going.{going_more, going_none, least_none, rest_now}
 use Rattle.sap_lines.proofs.stepping.Pieces.{written_is}
 use Rattle.sap_lines.proofs.stepping.Pace.{Wanted, front_more, needed_none, needed_read, read_further, read_none, written_more, written_none, written_read}
 
@@ -155,7 +155,7 @@ module _ (ls : Levels) (fs : List Field) (channel count : â„•) (asked : Option â
     line_so_far later text more piece left whole = record {
       asked = last_asked so.asked count asked;
       gained = so.gained ++ piece;
-      going = going_more channel so.asked count so.gained t m so.going asked k piece;
+      going = going_more channel so.asked count so.gained t m so.going asked k (least_none channel r.pending asked k m read.least) piece;
       read = read_on_so base shows back ls fs channel count asked k lines r s waiting quiet t m so read.least;
       follows = line_follows;
       shown =

@@ -26,7 +26,7 @@ use Rattle.sap_lines.specs.Stepping.Cycles.{Adds, CyclesCut}
 use Rattle.sap_lines.specs.Stepping.Followed.{Broken, FailsFor, Followed, GoesTooFar, IsPartShown, last_place}
 use Rattle.sap_lines.specs.Stepping.Pace.{IsNeeded, IsTooLong, Shows, printed_fault, printed_text}
 use Rattle.sap_lines.proofs.stepping.Between.{knowing, knowing_two, known_two, through_known}
-use Rattle.sap_lines.proofs.stepping.Going.{going_blamed, going_more, going_read, output_use, reading_on, use_now}
+use Rattle.sap_lines.proofs.stepping.Going.{going_blamed, going_more, going_read, least_none, output_use, reading_on, use_now}
 use Rattle.sap_lines.proofs.stepping.Pace.{all_written, not_told, written_more}
 use Rattle.sap_lines.proofs.stepping.Cycles.{cycles_cut}
 use Rattle.sap_lines.proofs.stepping.Along.{Along, ReadFor, SoFar, front_is, left_is, line_follows, needed_on, read_on_so, written_on}
@@ -74,7 +74,7 @@ module _ (base shows : Shows) (back : (lines : List (List Given)) (text : List â
       asked = last_asked so.asked given asked;
       count = given + k;
       gained = so.gained;
-      going = going_read channel so.asked given so.gained t m so.going asked k;
+      going = going_read channel so.asked given so.gained t m so.going asked k (least_none channel r.pending asked k m read.least);
       read = read_on_so base shows back ls fs channel given asked k lines r s waiting quiet t m so read.least;
       is_fault = sym (ap (Î» (p : Parsed). p.fault) is);
       shown = subst (Î» (p : Parsed). base p.stream (so.gained ++ waiting)) (sym is) (back (cycles_of lines) (so.gained ++ waiting) so.shown);
@@ -178,7 +178,7 @@ module _ (base shows : Shows) (back : (lines : List (List Given)) (text : List â
         count = given + k;
         gained = so.gained;
         going = going_blamed channel (last_asked so.asked given asked) (given + k) so.gained (name_if_reading (m.uses channel)) t (read_on channel asked k m)
-            (going_read channel so.asked given so.gained t m so.going asked k);
+            (going_read channel so.asked given so.gained t m so.going asked k (least_none channel r.pending asked k m least));
         read = read_on_so base shows back ls fs channel given asked k lines r r waiting quiet t m so least;
         part = part_of lines (rest_of m channel) so.gained t (follows_all lines t m so) (back (cycles_of lines) (so.gained ++ waiting) so.shown);
         part_read = part_given (take (given + k) (rest_of t channel)) so.gained (written_now lines quiet t m so wants);
@@ -279,7 +279,8 @@ module _ (base shows later : Shows) (was : (lines : List (List Given)) (text : L
           count = given + k;
           gained = so.gained ++ take part whole_text;
           going = going_blamed channel (last_asked so.asked given asked) (given + k) (so.gained ++ take part whole_text) (codes "output") t
-              (added 1 (take part whole_text) (read_on channel asked k m)) (going_more channel so.asked given so.gained t m so.going asked k (take part whole_text));
+              (added 1 (take part whole_text) (read_on channel asked k m))
+              (going_more channel so.asked given so.gained t m so.going asked k (least_none channel r.pending asked k m read.least) (take part whole_text));
           read = read_on_so base shows was ls fs channel given asked k lines r s waiting quiet t m so read.least;
           part = part_of_line (rest_of t channel) left follows;
           part_read = part_of_line front [] follows_read;

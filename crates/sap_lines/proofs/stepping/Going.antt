@@ -2,6 +2,7 @@
 use Rattle.sap_lemmas.proofs.Common.{◌≡◌, ◌≢◌, ℕ, ◌+◌, ◌<◌, true, false, List, [], ◌∷◌, ◌++◌, length, append_assoc, refl, sym, ◌∙◌, ap, arith, eqb, Option, Some, None, unwrap_or, cond, Bool, drop, nat_tests, append-nil}
 use Rattle.sap_desk.specs.Desk.{Told, Use, reads, writes, closed, stream, IsReading, added, at_number, blamed, read_on, read_on_use, rest_of, rest_of_use}
 use Rattle.sap_desk.proofs.Steps.{at_number-keeps, at_number-same, last_asked, other_number, read_on-none, read_on-twice}
+use Rattle.sap_lines.specs.Fetched.{ReadsLeast}
 use Rattle.sap_lines.specs.Stepping.Followed.{Going}
 
 pub going_none : (channel : ℕ) (t : Told) → Going channel None 0 [] t t
@@ -11,7 +12,13 @@ going_none channel t = record {
   output = sym (append-nil (t.written 1));
   others = λ k other. refl;
   room = refl;
+  none = λ is. refl;
 }
+
+-- where no piece was asked for, no byte was read
+pub least_none : (channel : ℕ) (pending : List ℕ) (asked : Option ℕ) (k : ℕ) (m : Told) → ReadsLeast channel pending asked k m → asked ≡ None → k ≡ 0
+least_none channel pending None k m least is = least
+least_none channel pending (Some few) k m least is = cc
 
 -- a text on channel 1 is on no other
 others_added : (piece : List ℕ) (t m : Told) → ((k : ℕ) → k ≢ 1 → m.written k ≡ t.written k) → (k : ℕ) → k ≢ 1 → (added 1 piece m).written k ≡ t.written k
@@ -25,17 +32,29 @@ module _ (channel : ℕ) (first : Option ℕ) (count : ℕ) (gained : List ℕ) 
       ap (λ (u : ℕ → Use). at_number channel (read_on_use asked k (u channel)) u) going.uses
       ∙ ap (λ (x : Told). x.uses) (read_on-twice channel first asked count k t)
 
-  pub going_read : (asked : Option ℕ) (k : ℕ) → Going channel (last_asked first count asked) (count + k) gained t (read_on channel asked k m)
-  going_read asked k = record { uses = uses_more asked k; files = going.files; output = going.output; others = going.others; room = going.room }
+  none_more : (asked : Option ℕ) (k : ℕ) → (asked ≡ None → k ≡ 0) → last_asked first count asked ≡ None → count + k ≡ 0
+  none_more None k none is = omega (arith, going.none is, none refl)
+  none_more (Some few) k none is = cc
 
-  pub going_more : (asked : Option ℕ) (k : ℕ) (piece : List ℕ)
+  pub going_read : (asked : Option ℕ) (k : ℕ) → (asked ≡ None → k ≡ 0) → Going channel (last_asked first count asked) (count + k) gained t (read_on channel asked k m)
+  going_read asked k none = record {
+    uses = uses_more asked k;
+    files = going.files;
+    output = going.output;
+    others = going.others;
+    room = going.room;
+    none = none_more asked k none;
+  }
+
+  pub going_more : (asked : Option ℕ) (k : ℕ) → (asked ≡ None → k ≡ 0) → (piece : List ℕ)
       → Going channel (last_asked first count asked) (count + k) (gained ++ piece) t (added 1 piece (read_on channel asked k m))
-  going_more asked k piece = record {
+  going_more asked k none piece = record {
     uses = uses_more asked k;
     files = going.files;
     output = ap (λ (l : List ℕ). l ++ piece) going.output ∙ append_assoc (t.written 1) gained piece;
     others = others_added piece t m going.others;
     room = going.room;
+    none = none_more asked k none;
   }
 
   pub going_added : (piece : List ℕ) → Going channel first count (gained ++ piece) t (added 1 piece m)
@@ -45,6 +64,7 @@ module _ (channel : ℕ) (first : Option ℕ) (count : ℕ) (gained : List ℕ) 
     output = ap (λ (l : List ℕ). l ++ piece) going.output ∙ append_assoc (t.written 1) gained piece;
     others = others_added piece t m going.others;
     room = going.room;
+    none = going.none;
   }
 
   pub use_now : m.uses channel ≡ read_on_use first count (t.uses channel)
@@ -57,7 +77,7 @@ module _ (channel : ℕ) (first : Option ℕ) (count : ℕ) (gained : List ℕ) 
 
 pub going_blamed : (channel : ℕ) (asked : Option ℕ) (count : ℕ) (gained name : List ℕ) (t m : Told) → Going channel asked count gained t m
     → Going channel asked count gained t (blamed name m)
-going_blamed channel asked count gained name t m g = record { uses = g.uses; files = g.files; output = g.output; others = g.others; room = g.room }
+going_blamed channel asked count gained name t m g = record { uses = g.uses; files = g.files; output = g.output; others = g.others; room = g.room; none = g.none }
 
 pub reading_on : (asked : Option ℕ) (n : ℕ) (u : Use) → IsReading u → IsReading (read_on_use asked n u)
 reading_on None n (reads name q p) h = tt

@@ -22,6 +22,7 @@ pub record Going (channel : ℕ) (asked : Option ℕ) (count : ℕ) (gained : Li
   pub output : n.written 1 ≡ t.written 1 ++ gained
   pub others : (k : ℕ) → k ≢ 1 → n.written k ≡ t.written k
   pub room : n.room ≡ t.room
+  pub none : asked ≡ None → count ≡ 0
 
 -- The beginning of what is shown of the first lines of a stimulus.
 pub record IsPartShown (shows : Shows) (ls : Levels) (fs : List Field) (bytes gained : List ℕ) : Type 0 where
