@@ -3,7 +3,7 @@
 import re
 import subprocess
 
-# Ours to those of Yosys, at most.
+# Ours to those of Yosys, at most; of a module of a few operators one more is no ratio to judge by.
 BAR = 1.3
 
 
@@ -23,4 +23,4 @@ def counted(name, path):
     ours = sum(1 for right in rights if re.search(r"[?|&^+\-*~<>!=]", right))
     plain, enabled = left(path, "dffunmap; opt -full -nodffe -nosdff; "), left(path, "")
     print(f"{name}: {items} items, {ours} operators, Yosys leaves {plain}: {ours / max(1, plain):.2f} times; {enabled} with enables and resets")
-    return ours <= BAR * max(1, plain)
+    return ours <= max(BAR * plain, plain + 1)

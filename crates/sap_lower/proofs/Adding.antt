@@ -15,6 +15,7 @@ use Rattle.sap_lower.specs.declared.lowering.Lowering.{Lowering}
 use Rattle.sap_lower.specs.Facts.{is_zero}
 use Rattle.sap_lower.specs.Lowering.{nothing, present, Low, plus, copied, placed, calculated, leaves_nothing, low_two, sliced, is_outside, low_slice, low}
 use Rattle.sap_fold.specs.Folding.{same_operand, settled}
+use Rattle.sap_lower.specs.Writes.{reads_cell, spared, low_write}
 use Rattle.sap_lower.specs.Commands.{chosen_unless, entries_plain, entries_under, port_of, taken_over, low_set, low_put, low_action, low_command, low_commands}
 
 -- of wires before and after: where none is added, where some are and then others, and where one is
@@ -94,24 +95,37 @@ module _ (R : List Wire → List Wire → Type 0) (each : OfEach R) where
   over_added true ws w c n o = each.none ws
   over_added false ws w c n o = each.wire ws _ _
 
-  put_added : (ms : Shapes) (es : List (Name × Part)) (p : WritePort) (c i t : Term Name) (ws : List Wire) → R ws (low_put ms es p c i t ws).wires
-  put_added ms es p c i t ws =
+  pub spared_added : (keeps : Bool) (c t : Operand) (a b : Part) (ws : List Wire) → R ws (spared keeps c t a b ws).wires
+  spared_added true c t a b ws = each.wire ws _ _
+  spared_added false c t a b ws = calculated_added ws _ _
+
+  pub write_added : (ms : Shapes) (es : List (Name × Part)) (m : Name) (c i : Operand) (t : Term Name) (ws : List Wire) → R ws (low_write ms es m c i t ws).wires
+  write_added ms es m c i (choose t a b) ws =
+      let z = low ms es t ws in
+      let x = low ms es a z.wires in
+      let y = low ms es b x.wires in
+      let last = spared_added (reads_cell y.wires m i x.part.operand) c z.part.operand x.part y.part y.wires in
+      each.both ws z.wires _ (low_added ms es t ws) (each.both z.wires x.wires _ (low_added ms es a z.wires) (each.both x.wires y.wires _ (low_added ms es b x.wires) last))
+  write_added ms es m c i t ws = low_added ms es t ws
+
+  put_added : (ms : Shapes) (es : List (Name × Part)) (m : Name) (p : WritePort) (c i t : Term Name) (ws : List Wire) → R ws (low_put ms es m p c i t ws).wires
+  put_added ms es m p c i t ws =
       let plain = entries_plain es in
       let z = low ms plain c ws in
       let seen = entries_under z es in
       let y = low ms seen i z.wires in
-      let x = low ms seen t y.wires in
-      let e = plus x.wires 1 (Choose z.part.operand (Constant 1 1) p.enable) in
+      let x = low_write ms seen m z.part.operand y.part.operand t y.wires in
+      let e = plus x.wires 1 (Choose x.write.when (Constant 1 1) p.enable) in
       let first = is_zero p.enable in
-      let j = taken_over first e.wires p.bits z.part.operand y.part.operand p.index in
-      let last = over_added first j.wires p.width z.part.operand x.part.operand p.value in
-      let index = over_added first e.wires p.bits z.part.operand y.part.operand p.index in
+      let j = taken_over first e.wires p.bits x.write.when y.part.operand p.index in
+      let last = over_added first j.wires p.width x.write.when x.write.value p.value in
+      let index = over_added first e.wires p.bits x.write.when y.part.operand p.index in
       let port = each.both x.wires e.wires _ (each.wire x.wires _ _) (each.both e.wires j.wires _ index last) in
-      each.both ws z.wires _ (low_added ms plain c ws) (each.both z.wires y.wires _ (low_added ms seen i z.wires) (each.both y.wires x.wires _ (low_added ms seen t y.wires) port))
+      each.both ws z.wires _ (low_added ms plain c ws) (each.both z.wires y.wires _ (low_added ms seen i z.wires) (each.both y.wires x.wires _ (write_added ms seen m z.part.operand y.part.operand t y.wires) port))
 
   action_added : (ms : Shapes) (s : Lowering) (c : Term Name) (a : Action) → R s.wires (low_action ms s c a).wires
   action_added ms s c (set x t) = set_added ms s c x t
-  action_added ms s c (put m i t) = put_added ms s.entries (port_of s.ports m) c i t s.wires
+  action_added ms s c (put m i t) = put_added ms s.entries m (port_of s.ports m) c i t s.wires
 
   pub commands_added : (ms : Shapes) (cs : List Command) (s : Lowering) → R s.wires (low_commands ms s cs).wires
   commands_added ms [] s = each.none s.wires

@@ -8,6 +8,8 @@ use Rattle.sap_lower.specs.declared.facts.Fact.{Fact}
 use Rattle.sap_lower.specs.declared.lowering.Lowering.{Lowering}
 use Rattle.sap_lower.specs.declared.parts.Part.{Part}
 use Rattle.sap_lower.specs.Facts.{facts_of}
+use Rattle.sap_lower.specs.declared.writes.Write.{Write}
+use Rattle.sap_lower.specs.Writes.{LowWrite, low_write}
 use Rattle.sap_lower.specs.Commands.{assigned, chosen, entries_plain, entries_under, low_action, merged_port, port_of, written}
 use Rattle.sap_lower.specs.Lowering.{Low, low}
 use Rattle.sap_lower.specs.Reads.{entries_seen}
@@ -45,25 +47,28 @@ module _ (ms : Shapes) (l : Lowering) (c : Term Name) (w1 : List Wire) (z : Part
       ∙ ap (λ (p : Part). assigned l x (chosen seen l.entries x gate.part.operand p.operand w2)) part
       ∙ ap (λ (u : List Wire). assigned l x (chosen seen l.entries x gate.part.operand value.part.operand u)) wires
 
-  pub put_lowered : (m : Name) (i a : Term Name) (w2 w3 : List Wire) (j y : Part)
+  pub put_lowered : (m : Name) (i a : Term Name) (w2 w3 : List Wire) (j : Part) (y : Write)
       → w2 ≡ (low ms (entries_seen (take b w1) fs l.entries) i w1).wires → j ≡ (low ms (entries_seen (take b w1) fs l.entries) i w1).part
       → take b w2 ≡ take b w1
-      → w3 ≡ (low ms (entries_seen (take b w2) fs l.entries) a w2).wires → y ≡ (low ms (entries_seen (take b w2) fs l.entries) a w2).part
-      → written l m (merged_port (port_of l.ports m) z.operand j.operand y.operand w3) ≡ low_action ms l c (put m i a)
+      → w3 ≡ (low_write ms (entries_seen (take b w2) fs l.entries) m z.operand j.operand a w2).wires
+      → y ≡ (low_write ms (entries_seen (take b w2) fs l.entries) m z.operand j.operand a w2).write
+      → written l m (merged_port (port_of l.ports m) y.when j.operand y.value w3) ≡ low_action ms l c (put m i a)
   put_lowered m i a w2 w3 j y e f front g h =
       let index = low ms seen i gate.wires in
-      let value = low ms seen a index.wires in
+      let write = low_write ms seen m gate.part.operand index.part.operand a index.wires in
       let port = port_of l.ports m in
       let behind : w2 ≡ index.wires =
       e ∙ ap (λ (q : List (Name × Part)). (low ms q i w1).wires) known ∙ ap (λ (u : List Wire). (low ms seen i u).wires) gate_wires in
       let at : j ≡ index.part =
       f ∙ ap (λ (q : List (Name × Part)). (low ms q i w1).part) known ∙ ap (λ (u : List Wire). (low ms seen i u).part) gate_wires in
       let known2 : entries_seen (take b w2) fs l.entries ≡ seen = ap (λ (u : List Wire). entries_seen u fs l.entries) front ∙ known in
-      let wires : w3 ≡ value.wires =
-      g ∙ ap (λ (q : List (Name × Part)). (low ms q a w2).wires) known2 ∙ ap (λ (u : List Wire). (low ms seen a u).wires) behind in
-      let part : y ≡ value.part =
-      h ∙ ap (λ (q : List (Name × Part)). (low ms q a w2).part) known2 ∙ ap (λ (u : List Wire). (low ms seen a u).part) behind in
-      ap (λ (p : Part). written l m (merged_port port p.operand j.operand y.operand w3)) gate_part
-      ∙ ap (λ (p : Part). written l m (merged_port port gate.part.operand p.operand y.operand w3)) at
-      ∙ ap (λ (p : Part). written l m (merged_port port gate.part.operand index.part.operand p.operand w3)) part
-      ∙ ap (λ (u : List Wire). written l m (merged_port port gate.part.operand index.part.operand value.part.operand u)) wires
+      let made : low_write ms (entries_seen (take b w2) fs l.entries) m z.operand j.operand a w2 ≡ write =
+      ap (λ (q : List (Name × Part)). low_write ms q m z.operand j.operand a w2) known2
+      ∙ ap (λ (p : Part). low_write ms seen m p.operand j.operand a w2) gate_part
+      ∙ ap (λ (p : Part). low_write ms seen m gate.part.operand p.operand a w2) at
+      ∙ ap (λ (u : List Wire). low_write ms seen m gate.part.operand index.part.operand a u) behind in
+      let wires : w3 ≡ write.wires = g ∙ ap (λ (q : LowWrite). q.wires) made in
+      let same : y ≡ write.write = h ∙ ap (λ (q : LowWrite). q.write) made in
+      ap (λ (q : Write). written l m (merged_port port q.when j.operand q.value w3)) same
+      ∙ ap (λ (p : Part). written l m (merged_port port write.write.when p.operand write.write.value w3)) at
+      ∙ ap (λ (u : List Wire). written l m (merged_port port write.write.when index.part.operand write.write.value u)) wires

@@ -1,7 +1,7 @@
 -- The wires of all assignments and writes fit.
 use Rattle.sap_lemmas.proofs.Common.{◌≡◌, ℕ, ◌^◌, ◌<◌, ◌≤◌, Bool, true, false, List, [], ◌∷◌, Some, length, ap, subst, refl, arith, inl, inr, unwrap_or, bytes_eq, AllByRecursion, cases_Bool, same_power, equal_of_bytes_eq}
 use Rattle.sap_net.proofs.RulesLemmas.{one_wide, Grows, operand_grows}
-use Rattle.sap_maps.specs.Prelude.{Name, Scope, find, Term}
+use Rattle.sap_maps.specs.Prelude.{Name, Scope, find, Term, choose}
 use Rattle.sap_net.specs.Rules.{Shapes, IsWidth, IsDepth, IsOperand, readable_after}
 use Rattle.sap_net.specs.declared.parts.Operand.{Operand}
 use Rattle.sap_net.specs.declared.parts.Operand.TheVariants.{Constant}
@@ -10,7 +10,8 @@ use Rattle.sap_net.specs.declared.parts.Wire.{Wire}
 use Rattle.sap_ir.specs.Prelude.{Action, set, put, Command, TermFine}
 use Rattle.sap_lower.specs.declared.parts.WritePort.{WritePort}
 use Rattle.sap_lower.specs.Facts.{facts_of, is_zero}
-use Rattle.sap_lower.specs.Lowering.{nothing, present, plus, low}
+use Rattle.sap_lower.specs.Lowering.{nothing, present, Low, plus, calculated, low}
+use Rattle.sap_lower.specs.Writes.{reads_cell, LowWrite, spared, low_write}
 use Rattle.sap_share.specs.Tables.{replaced}
 use Rattle.sap_lower.specs.declared.lowering.Lowering.{Lowering}
 use Rattle.sap_fold.specs.Folding.{same_operand}
@@ -18,9 +19,9 @@ use Rattle.sap_lower.specs.declared.parts.Part.{Part}
 use Rattle.sap_lower.specs.Commands.{chosen_unless, entries_plain, entries_under, no_port, port_of, taken_over, low_set, low_put, low_action, low_command, low_commands}
 use Rattle.sap_lower.proofs.Stands.{HasEntries, replaced_same, replaced_other, replaced_has}
 use Rattle.sap_lower.proofs.Standing.{ActionOk, CommandOk}
-use Rattle.sap_lower.proofs.Adding.{commands_added, unless_added}
+use Rattle.sap_lower.proofs.Adding.{commands_added, spared_added, unless_added, write_added}
 use Rattle.sap_lower.proofs.SeenFits.{env_seen_fits}
-use Rattle.sap_lower.proofs.Fits.{IsLonger, longer, Fits, NoHelpers, EnvFits, env_grows, Lowered, plus_at, plus_long, low_long, low_fits}
+use Rattle.sap_lower.proofs.Fits.{IsLonger, longer, Fits, NoHelpers, EnvFits, env_grows, Lowered, plus_at, plus_long, calculated_at, low_long, low_fits}
 
 abbrev pub AllWide : Scope → Type 0
 AllWide vars = (n : Name) (u : ℕ) → find vars n ≡ Some u → IsWidth u
@@ -145,6 +146,66 @@ over_fits : (ms : Shapes) (sc : Scope) (first : Bool) (ws : List Wire) (w u : �
 over_fits ms sc true ws w u c n o e apart fits iw oc on oo l = record { fits = fits; grows = λ m k h. h; operand = on; width = e }
 over_fits ms sc false ws w u c n o e apart fits iw oc on oo l = plus_at ms sc ws w u (Choose c n o) e apart fits iw (oc, on, oo) l
 
+-- a write of a term fits the memory's cells
+record WriteFits (ms : Shapes) (sc : Scope) (ws : List Wire) (x : LowWrite) (w : ℕ) : Type 0 where
+  fits : Fits ms sc x.wires
+  grows : Grows (readable_after sc ws) (readable_after sc x.wires)
+  when : IsOperand (readable_after sc x.wires) 1 x.write.when
+  value : IsOperand (readable_after sc x.wires) w x.write.value
+
+plain_fits : (ms : Shapes) (sc : Scope) (ws : List Wire) (x : Low) (c : Operand) (w : ℕ) → Lowered ms sc ws x.wires x.part w → IsOperand (readable_after sc ws) 1 c
+    → WriteFits ms sc ws (record { wires = x.wires; write = record { when = c; value = x.part.operand } }) w
+plain_fits ms sc ws x c w l oc =
+    record { fits = l.fits; grows = l.grows; when = operand_grows (readable_after sc ws) (readable_after sc x.wires) l.grows 1 c oc; value = l.operand }
+
+spared_fits : (ms : Shapes) (sc : Scope) → NoHelpers ms → (keeps : Bool) (c t : Operand) (a b : Part) (ws : List Wire) (w : ℕ) → IsWidth w → Fits ms sc ws
+    → IsOperand (readable_after sc ws) 1 c → IsOperand (readable_after sc ws) 1 t → IsOperand (readable_after sc ws) w a.operand → a.width ≡ w
+    → IsOperand (readable_after sc ws) w b.operand → length (spared keeps c t a b ws).wires < 2 ^ 64 → WriteFits ms sc ws (spared keeps c t a b ws) w
+spared_fits ms sc apart true c t a b ws w iw fits oc ot oa wa ob l =
+    let p = plus_at ms sc ws 1 1 (Choose t (Constant 1 0) c) refl apart fits one_wide (ot, (refl, omega arith), oc) l in
+    record {
+      fits = p.fits;
+      grows = p.grows;
+      when = p.operand;
+      value = operand_grows (readable_after sc ws) (readable_after sc (plus ws 1 (Choose t (Constant 1 0) c)).wires) p.grows w b.operand ob;
+    }
+spared_fits ms sc apart false c t a b ws w iw fits oc ot oa wa ob l =
+    plain_fits ms sc ws (calculated ws a.width (Choose t a.operand b.operand)) c w
+    (calculated_at ms sc ws a.width w (Choose t a.operand b.operand) wa apart fits iw (ot, oa, ob) l) oc
+
+write_fits : (ms : Shapes) (sc vars : Scope) (es : List (Name × Part)) → NoHelpers ms → (m : Name) (c i : Operand) (w : ℕ) (t : Term Name) → IsWidth w
+    → TermFine ms vars w t → (ws : List Wire) → EnvFits (readable_after sc ws) vars es → Fits ms sc ws → IsOperand (readable_after sc ws) 1 c
+    → length (low_write ms es m c i t ws).wires < 2 ^ 64 → WriteFits ms sc ws (low_write ms es m c i t ws) w
+write_fits ms sc vars es apart m c i w (choose t a b) iw f ws env fits oc l =
+    let z = low ms es t ws in
+    let x = low ms es a z.wires in
+    let y = low ms es b x.wires in
+    let s0 = readable_after sc ws in
+    let sz = readable_after sc z.wires in
+    let sx = readable_after sc x.wires in
+    let sy = readable_after sc y.wires in
+    let keeps = reads_cell y.wires m i x.part.operand in
+    let e = spared_added IsLonger longer keeps c z.part.operand x.part y.part y.wires in
+    let lb = low_long ms es b x.wires in
+    let la = low_long ms es a z.wires in
+    let t' = low_fits ms sc vars es apart 1 t one_wide f.0 ws env fits (omega (arith, e, lb, la)) in
+    let ez = env_grows s0 sz vars es t'.grows env in
+    let a' = low_fits ms sc vars es apart w a iw f.1 z.wires ez t'.fits (omega (arith, e, lb)) in
+    let ex = env_grows sz sx vars es a'.grows ez in
+    let b' = low_fits ms sc vars es apart w b iw f.2 x.wires ex a'.fits (omega (arith, e)) in
+    let oc' = operand_grows sx sy b'.grows 1 c (operand_grows sz sx a'.grows 1 c (operand_grows s0 sz t'.grows 1 c oc)) in
+    let ot = operand_grows sx sy b'.grows 1 z.part.operand (operand_grows sz sx a'.grows 1 z.part.operand t'.operand) in
+    let oa = operand_grows sx sy b'.grows w x.part.operand a'.operand in
+    let p = spared_fits ms sc apart keeps c z.part.operand x.part y.part y.wires w iw b'.fits oc' ot oa a'.width b'.operand l in
+    record {
+      fits = p.fits;
+      grows = λ n k h. p.grows n k (b'.grows n k (a'.grows n k (t'.grows n k h)));
+      when = p.when;
+      value = p.value;
+    }
+write_fits ms sc vars es apart m c i w t iw f ws env fits oc l =
+    plain_fits ms sc ws (low ms es t ws) c w (low_fits ms sc vars es apart w t iw f ws env fits l) oc
+
 put_state_fits : (ms : Shapes) (sc vars : Scope) → NoHelpers ms → AllCellsWide ms
     → (s : Lowering) (c : Term Name) (m : Name) (i t : Term Name) (w b : ℕ) → IsWidth b → find ms m ≡ Some (w, 2 ^ b) → TermFine ms vars 1 c
     → TermFine ms vars b i → TermFine ms vars w t → StateFits ms sc vars s → length (low_action ms s c (put m i t)).wires < 2 ^ 64
@@ -157,16 +218,17 @@ put_state_fits ms sc vars apart wide s c m i t w b ib found fc fi ft k len =
     let z = low ms plain c s.wires in
     let seen = entries_under z es in
     let y = low ms seen i z.wires in
-    let x = low ms seen t y.wires in
-    let re = Choose z.part.operand (Constant 1 1) p.enable in
+    let x = low_write ms seen m z.part.operand y.part.operand t y.wires in
+    let when = x.write.when in
+    let re = Choose when (Constant 1 1) p.enable in
     let e = plus x.wires 1 re in
     let first = is_zero p.enable in
-    let j = taken_over first e.wires p.bits z.part.operand y.part.operand p.index in
-    let l = taken_over first j.wires p.width z.part.operand x.part.operand p.value in
-    let ll = over_long first j.wires p.width z.part.operand x.part.operand p.value in
-    let lj = over_long first e.wires p.bits z.part.operand y.part.operand p.index in
+    let j = taken_over first e.wires p.bits when y.part.operand p.index in
+    let l = taken_over first j.wires p.width when x.write.value p.value in
+    let ll = over_long first j.wires p.width when x.write.value p.value in
+    let lj = over_long first e.wires p.bits when y.part.operand p.index in
     let le = plus_long x.wires 1 re in
-    let lx = low_long ms seen t y.wires in
+    let lx = write_added IsLonger longer ms seen m z.part.operand y.part.operand t y.wires in
     let ly = low_long ms seen i z.wires in
     let iw = wide m (w, 2 ^ b) found in
     let bits : b ≡ p.bits = same_power b p.bits pf.deep.2 in
@@ -183,22 +245,22 @@ put_state_fits ms sc vars apart wide s c m i t w b ib found fc fi ft k len =
     let eu = env_seen_fits ms sc z.wires c'.fits.wires (facts_of z.wires z.part.operand) vars es ez in
     let i' = low_fits ms sc vars seen apart b i ib fi z.wires eu c'.fits (omega (arith, ll, lj, le, lx)) in
     let ey = env_grows sz sy vars seen i'.grows eu in
-    let t' = low_fits ms sc vars seen apart w t iw ft y.wires ey i'.fits (omega (arith, ll, lj, le)) in
+    let ocy = operand_grows sz sy i'.grows 1 z.part.operand c'.operand in
+    let t' = write_fits ms sc vars seen apart m z.part.operand y.part.operand w t iw ft y.wires ey i'.fits ocy (omega (arith, ll, lj, le)) in
     let g0x : Grows s0 sx = λ n q h. t'.grows n q (i'.grows n q (c'.grows n q h)) in
     let px = port_grows s0 sx g0x p w (2 ^ b) pf in
-    let oc = operand_grows sy sx t'.grows 1 z.part.operand (operand_grows sz sy i'.grows 1 z.part.operand c'.operand) in
     let oi = operand_grows sy sx t'.grows b y.part.operand i'.operand in
-    let e' = plus_at ms sc x.wires 1 1 re refl apart t'.fits one_wide (oc, (refl, omega arith), px.enable) (omega (arith, ll, lj)) in
+    let e' = plus_at ms sc x.wires 1 1 re refl apart t'.fits one_wide (t'.when, (refl, omega arith), px.enable) (omega (arith, ll, lj)) in
     let pe = port_grows sx se e'.grows p w (2 ^ b) px in
     let oi' = subst (λ (q : ℕ). IsOperand se q y.part.operand) bits (operand_grows sx se e'.grows b y.part.operand oi) in
-    let j' = over_fits ms sc first e.wires p.bits p.bits z.part.operand y.part.operand p.index refl apart e'.fits (subst (λ (q : ℕ). IsWidth q) bits ib)
-    (operand_grows sx se e'.grows 1 z.part.operand oc) oi' pe.index (omega (arith, ll)) in
+    let j' = over_fits ms sc first e.wires p.bits p.bits when y.part.operand p.index refl apart e'.fits (subst (λ (q : ℕ). IsWidth q) bits ib)
+    (operand_grows sx se e'.grows 1 when t'.when) oi' pe.index (omega (arith, ll)) in
     let pj = port_grows se sj j'.grows p w (2 ^ b) pe in
-    let ot = operand_grows se sj j'.grows w x.part.operand (operand_grows sx se e'.grows w x.part.operand t'.operand) in
-    let ocj = operand_grows se sj j'.grows 1 z.part.operand (operand_grows sx se e'.grows 1 z.part.operand oc) in
-    let l' = over_fits ms sc first j.wires p.width w z.part.operand x.part.operand p.value pf.wide apart j'.fits iw ocj ot pj.value len in
+    let ot = operand_grows se sj j'.grows w x.write.value (operand_grows sx se e'.grows w x.write.value t'.value) in
+    let ocj = operand_grows se sj j'.grows 1 when (operand_grows sx se e'.grows 1 when t'.when) in
+    let l' = over_fits ms sc first j.wires p.width w when x.write.value p.value pf.wide apart j'.fits iw ocj ot pj.value len in
     let g0l : Grows s0 sl = λ n q h. l'.grows n q (j'.grows n q (e'.grows n q (g0x n q h))) in
-    let port = (low_put ms es p c i t s.wires).port in
+    let port = (low_put ms es m p c i t s.wires).port in
     let here : PortFits sl port w (2 ^ b) = record {
       wide = pf.wide;
       deep = pf.deep;

@@ -209,7 +209,7 @@ cycle_same s k once p e xs v b c =
     let around : Around ms vars vw widths v (first_entries s) g.now.value g.now.cell =
     record { declared = source_widths s k.rules.declared_once; env = env; memories = memories } in
     let ports : PortsAre ms v (map first_port s.memories) g (λ m. false) =
-    λ m d f. let r = ap (λ o. unwrap_or o no_port) (first_port_found s.memories m d f) in rw r (record { written = refl; next = λ j. refl }) in
+    λ m d f. let r = ap (λ o. unwrap_or o no_port) (first_port_found s.memories m d f) in rw r (record { written = λ f. refl; next = λ j. refl }) in
     let first : Standing ms vars vw widths v (first_lowering s) g (λ m. false) =
     record { around = around; has = k.entries; has_ports = k.ports; ports = ports } in
     let fits = within_before s k e v below (all_below widths v s.registers known.1) starts cells in

@@ -101,7 +101,7 @@ numbered_told widths v ws g n r None e = absurd (cc)
 numbered_told widths v ws g n r (Some k) e = named_told widths v n r (slice_get ws k) (λ w h. at_told widths v ws g k w h) e
 
 module _ (widths : Name → ℕ) (v : Valuation) (ws : List Wire) (given : Gives widths v ws) where
-  right_told : (n : Name) (r : Right) → right_of ws n ≡ Some r → Told widths v n r
+  pub right_told : (n : Name) (r : Right) → right_of ws n ≡ Some r → Told widths v n r
   right_told n r e = numbered_told widths v ws given n r (number_of 10 (drop 1 n)) e
 
   -- facts hold

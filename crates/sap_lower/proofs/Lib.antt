@@ -11,6 +11,7 @@ pub mod Calculated
 pub mod Adding
 pub mod Means
 pub mod Stands
+pub mod Written
 pub mod Ports
 pub mod Standing
 pub mod Fits
@@ -35,4 +36,5 @@ pub mod Made
 pub mod Sharing
 pub mod Small
 pub mod Copied
+pub mod Choices
 pub mod LoweredLemmas

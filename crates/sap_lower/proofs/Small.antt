@@ -1,5 +1,5 @@
 -- How many items the netlist of a program has.
-use Rattle.sap_lemmas.proofs.Common.{◌≡◌, ◌⊎◌, ℕ, ◌+◌, ◌-◌, ◌%◌, ◌≤◌, List, [], ◌∷◌, ◌++◌, map, filter, length, Option, Some, None, Bool, true, false, sym, ap, ◌∙◌, subst, refl, arith, inl, inr, length-append, length-map, if◌then◌else◌, bytes_eq, cases_Bool, bytes_eq_apart_back, bytes_eq_same, equal_of_bytes_eq}
+use Rattle.sap_lemmas.proofs.Common.{◌≡◌, ◌⊎◌, ℕ, ◌+◌, ◌-◌, ◌%◌, ◌≤◌, ◌||◌, List, [], ◌∷◌, ◌++◌, map, filter, length, Option, Some, None, Bool, true, false, sym, ap, ◌∙◌, subst, refl, arith, inl, inr, length-append, length-map, if◌then◌else◌, bytes_eq, cases_Bool, bytes_eq_apart_back, bytes_eq_same, equal_of_bytes_eq}
 use Rattle.std.specs.Set.{remove_key}
 use Rattle.std.proofs.lemmas.Map.Made.{length-remove_key}
 use Rattle.sap_bits.specs.Arithmetic.{width1, width2, slice_of}
@@ -14,8 +14,8 @@ use Rattle.sap_net.specs.declared.parts.Wire.{Wire}
 use Rattle.sap_ir.specs.Prelude.{Action, set, put, Command, Source, shapes, variable_names, memory_names, IsGuarded}
 use Rattle.sap_ir.specs.declared.guarded.Var.{Var}
 use Rattle.sap_ir.proofs.Declared.{distinct_front, distinct_behind}
-use Rattle.sap_size.specs.Terms.{same_term, operations_in, operations}
-use Rattle.sap_size.proofs.Terms.{term_is, term_self, term_laws, has, has_front, has_behind, all_operations, all_has}
+use Rattle.sap_size.specs.Terms.{same_term, operations_in, operations, term_size}
+use Rattle.sap_size.proofs.Terms.{term_is, term_self, term_laws, has, has_both, has_front, has_behind, all_operations, all_has}
 use Rattle.sap_size.specs.Flat.{action_weight, commands_weight, source_weight}
 use Rattle.sap_size.specs.Items.{items}
 use Rattle.sap_lower.specs.declared.parts.Part.{Part}
@@ -28,6 +28,7 @@ use Rattle.sap_fold.specs.Folding as folding
 use Rattle.sap_fold.specs.Folding.{same_operand}
 use Rattle.sap_lower.specs.Lowering.{nothing, present, Low, shared, plus, copied, placed, calculated, leaves_nothing, low_two, sliced, is_outside, low_slice, cell_width, low_join, low}
 use Rattle.sap_lower.specs.declared.lowering.Lowering.{Lowering}
+use Rattle.sap_lower.specs.Writes.{reads_cell, spared, low_write}
 use Rattle.sap_lower.specs.Commands.{chosen_unless, entries_plain, entries_under, port_of, taken_over, low_chosen, merged_port, low_put, low_action, low_command, low_commands}
 use Rattle.sap_lower.specs.Lowered.{first_lowering, last_lowering, out_wire, listed, unlisted, unported, picked, register_of, memory_of, registers_declared, lowered}
 use Rattle.sap_lower.proofs.Adding.{OfEach, low_added}
@@ -345,6 +346,97 @@ chosen_adds ms es ws c x a =
     let r = unless_adds (same_operand y.part.operand (present seen x).operand) es x z.part.operand y.part.operand y.wires in
     omega (arith, p, q, r)
 
+-- an operation of a term is no larger than the term
+
+size_here : (t q : Term Name) (xs : List (Term Name)) → (has xs q ≡ true → term_size q ≤ term_size t) → has (t ∷ xs) q ≡ true → term_size q ≤ term_size t
+size_here t q xs f h =
+    elim (cases_Bool (same_term q t)) [
+      | inl s ↦ subst (λ (u : Term Name). term_size u ≤ term_size t) (sym (term_is q t s)) (omega arith)
+      | inr n ↦ f (rw n at h)
+    ]
+
+size_either : (xs ys : List (Term Name)) (q : Term Name) (n : ℕ) → (has xs q ≡ true → term_size q ≤ n) → (has ys q ≡ true → term_size q ≤ n)
+    → has (xs ++ ys) q ≡ true → term_size q ≤ n
+size_either xs ys q n f g h =
+    elim (cases_Bool (has xs q)) [
+      | inl t ↦ f t
+      | inr d ↦ g (let k : (has xs q || has ys q) ≡ true = sym (has_both xs ys q) ∙ h in rw d at k)
+    ]
+
+size_within : (t q : Term Name) → has (operations_in t) q ≡ true → term_size q ≤ term_size t
+size_within (constant w n) q h = absurd (cc)
+size_within (read x) q h = absurd (cc)
+size_within (cell m i) q h = size_here (cell m i) q (operations_in i) (λ g. let k = size_within i q g in omega (arith, k)) h
+size_within (one op a) q h = size_here (one op a) q (operations_in a) (λ g. let k = size_within a q g in omega (arith, k)) h
+size_within (two op a b) q h =
+    size_here (two op a b) q (operations_in a ++ operations_in b)
+    (size_either (operations_in a) (operations_in b) q (term_size (two op a b))
+    (λ g. let k = size_within a q g in omega (arith, k)) (λ g. let k = size_within b q g in omega (arith, k))) h
+size_within (choose c a b) q h =
+    size_here (choose c a b) q (operations_in c ++ (operations_in a ++ operations_in b))
+    (size_either (operations_in c) (operations_in a ++ operations_in b) q (term_size (choose c a b))
+    (λ g. let k = size_within c q g in omega (arith, k))
+    (size_either (operations_in a) (operations_in b) q (term_size (choose c a b))
+    (λ g. let k = size_within a q g in omega (arith, k)) (λ g. let k = size_within b q g in omega (arith, k)))) h
+size_within (join a b) q h =
+    size_here (join a b) q (operations_in a ++ operations_in b)
+    (size_either (operations_in a) (operations_in b) q (term_size (join a b))
+    (λ g. let k = size_within a q g in omega (arith, k)) (λ g. let k = size_within b q g in omega (arith, k))) h
+size_within (part a hi lo) q h = size_here (part a hi lo) q (operations_in a) (λ g. let k = size_within a q g in omega (arith, k)) h
+
+-- a choice is none of the operations below it
+not_itself : (c a b q : Term Name) → has (operations_in c ++ (operations_in a ++ operations_in b)) q ≡ true → same_term (choose c a b) q ≡ false
+not_itself c a b q h =
+    elim (cases_Bool (same_term (choose c a b) q)) [
+      | inl s ↦
+          let n = term_size c + term_size a + term_size b in
+          let k : term_size q ≤ n = size_either (operations_in c) (operations_in a ++ operations_in b) q n
+          (λ g. let k = size_within c q g in omega (arith, k))
+          (size_either (operations_in a) (operations_in b) q n (λ g. let k = size_within a q g in omega (arith, k))
+          (λ g. let k = size_within b q g in omega (arith, k))) h in
+          let e : term_size (choose c a b) ≡ term_size q = ap term_size (term_is (choose c a b) q s) in
+          absurd (omega (arith, k, e))
+      | inr f ↦ f
+    ]
+
+-- the test and the two numbers of a choice leave room for its own wire
+below_adds : (ms : Shapes) (es : List (Name × Part)) (z a b : Term Name) (ws : List Wire)
+    → length (low ms es b (low ms es a (low ms es z ws).wires).wires).wires + 1 ≤ length ws + operations (choose z a b)
+below_adds ms es z a b ws =
+    let t = choose z a b in
+    let zs = operations_in z in
+    let xs = operations_in a in
+    let ys = operations_in b in
+    let all = all_operations t in
+    let u = low ms es z ws in
+    let x = low ms es a u.wires in
+    let open_ones = remove_key (same_term t) all in
+    let listed : (q : Term Name) → has (zs ++ (xs ++ ys)) q ≡ true → Listed ms es ws open_ones q =
+    λ q h. inr (others_stay t q all (not_itself z a b q h) (all_has t q (has_behind (t ∷ []) (zs ++ (xs ++ ys)) q h))) in
+    let o = counted ms es z ws open_ones (λ q g. listed q (has_front zs (xs ++ ys) q g)) in
+    let c = counted ms es a u.wires o.left (λ q g. o.all q (listed q (has_behind zs (xs ++ ys) q (has_front xs ys q g)))) in
+    let oc = then_made ms es t ws u.wires x.wires open_ones o c in
+    let d = counted ms es b x.wires oc.left (λ q g. oc.all q (listed q (has_behind zs (xs ++ ys) q (has_behind xs ys q g)))) in
+    let both = then_made ms es t ws x.wires (low ms es b x.wires).wires open_ones oc d in
+    let n = both.count in
+    let r = length-remove_key (same_term t) all (all_has t t (has_here t (zs ++ (xs ++ ys)))) in
+    omega (arith, n, r)
+
+spared_adds : (keeps : Bool) (c t : Operand) (a b : Part) (ws : List Wire) → length (spared keeps c t a b ws).wires ≤ length ws + 1
+spared_adds true c t a b ws = plus_adds ws 1 (Choose t (Constant 1 0) c)
+spared_adds false c t a b ws = (calculated_step a.width (Choose t a.operand b.operand)).adds ws
+
+write_adds : (ms : Shapes) (es : List (Name × Part)) (m : Name) (c i : Operand) (t : Term Name) (ws : List Wire)
+    → length (low_write ms es m c i t ws).wires ≤ length ws + operations t
+write_adds ms es m c i (choose t a b) ws =
+    let z = low ms es t ws in
+    let x = low ms es a z.wires in
+    let y = low ms es b x.wires in
+    let p = spared_adds (reads_cell y.wires m i x.part.operand) c z.part.operand x.part y.part y.wires in
+    let q = below_adds ms es t a b ws in
+    omega (arith, p, q)
+write_adds ms es m c i t ws = low_adds ms es t ws
+
 over_adds : (first : Bool) (ws : List Wire) (w : ℕ) (c n o : Operand) → length (taken_over first ws w c n o).wires ≤ length ws + 1
 over_adds true ws w c n o = omega arith
 over_adds false ws w c n o = plus_adds ws w (Choose c n o)
@@ -359,23 +451,23 @@ port_adds p c i a ws =
     let s = over_adds first j.wires p.width c a p.value in
     omega (arith, q, r, s)
 
-put_adds : (ms : Shapes) (es : List (Name × Part)) (p : WritePort) (c i a : Term Name) (ws : List Wire)
-    → length (low_put ms es p c i a ws).wires ≤ length ws + (3 + operations c + operations i + operations a)
-put_adds ms es p c i a ws =
+put_adds : (ms : Shapes) (es : List (Name × Part)) (m : Name) (p : WritePort) (c i a : Term Name) (ws : List Wire)
+    → length (low_put ms es m p c i a ws).wires ≤ length ws + (3 + operations c + operations i + operations a)
+put_adds ms es m p c i a ws =
     let plain = entries_plain es in
     let z = low ms plain c ws in
     let seen = entries_under z es in
     let y = low ms seen i z.wires in
-    let x = low ms seen a y.wires in
+    let x = low_write ms seen m z.part.operand y.part.operand a y.wires in
     let k = low_adds ms plain c ws in
     let l = low_adds ms seen i z.wires in
-    let m = low_adds ms seen a y.wires in
-    let n = port_adds p z.part.operand y.part.operand x.part.operand x.wires in
-    omega (arith, k, l, m, n)
+    let n = write_adds ms seen m z.part.operand y.part.operand a y.wires in
+    let r = port_adds p x.write.when y.part.operand x.write.value x.wires in
+    omega (arith, k, l, n, r)
 
 action_adds : (ms : Shapes) (s : Lowering) (c : Term Name) (a : Action) → length (low_action ms s c a).wires ≤ length s.wires + (operations c + action_weight a)
 action_adds ms s c (set x a) = let p = chosen_adds ms s.entries s.wires c x a in omega (arith, p)
-action_adds ms s c (put m i a) = let p = put_adds ms s.entries (port_of s.ports m) c i a s.wires in omega (arith, p)
+action_adds ms s c (put m i a) = let p = put_adds ms s.entries m (port_of s.ports m) c i a s.wires in omega (arith, p)
 
 commands_add : (ms : Shapes) (s : Lowering) (cs : List Command) → length (low_commands ms s cs).wires ≤ length s.wires + commands_weight cs
 commands_add ms s [] = omega arith

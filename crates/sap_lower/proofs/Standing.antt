@@ -73,10 +73,10 @@ action_stands ms vars vw widths v s g done k c (put m i t) fc f once h =
     let vi = value_in vw g i in
     let vt = value_in vw g t in
     let p = port_of s.ports m in
-    let q = low_put ms s.entries p c i t s.wires in
+    let q = low_put ms s.entries m p c i t s.wires in
     let e = now_of off g m vi vt in
     let here : is_among m (m ∷ []) ≡ true = rw (bytes_eq_same m) refl in
-    let is = put_is ms vars vw widths v s.entries g k.around p m (done m) (k.ports m (f.0, 2 ^ f.1) f.3) c i t f.1 f.0 fc f.4 f.5 (λ o. once m o here) s.wires h in
+    let is = put_is ms vars vw widths v s.entries g k.around p m (f.0, 2 ^ f.1) f.3 (done m) (k.ports m (f.0, 2 ^ f.1) f.3) c i t f.1 f.0 fc f.4 f.5 (λ o. once m o here) s.wires h in
     let after : Going = if off then g else record { now = g.now; next = set_cell g.next m vi vt } in
     record {
       around = subst (λ (now : Valuation). Around ms vars vw widths v s.entries now.value now.cell) (sym e) k.around;

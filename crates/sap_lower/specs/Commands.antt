@@ -17,6 +17,7 @@ use Rattle.sap_lower.specs.declared.parts.WritePort.{WritePort}
 use Rattle.sap_lower.specs.Facts.{facts_of, is_zero}
 use Rattle.sap_lower.specs.Lowering.{present, Low, plus, low}
 use Rattle.sap_lower.specs.Reads.{entries_seen}
+use Rattle.sap_lower.specs.Writes.{low_write}
 
 -- The write port of a memory that isn't there.
 abbrev pub no_port : WritePort
@@ -85,13 +86,13 @@ merged_port p c i a ws =
     }
 
 -- The wires of a memory's write under a condition.
-abbrev pub low_put : Shapes → List (Name × Part) → WritePort → (c i a : Term Name) → List Wire → Ported
-low_put ms es p c i a ws =
+abbrev pub low_put : Shapes → List (Name × Part) → Name → WritePort → (c i a : Term Name) → List Wire → Ported
+low_put ms es m p c i a ws =
     let z = low ms (entries_plain es) c ws in
     let seen = entries_under z es in
     let y = low ms seen i z.wires in
-    let x = low ms seen a y.wires in
-    merged_port p z.part.operand y.part.operand x.part.operand x.wires
+    let x = low_write ms seen m z.part.operand y.part.operand a y.wires in
+    merged_port p x.write.when y.part.operand x.write.value x.wires
 
 -- A name stands for another part.
 abbrev pub assigned : Lowering → Name → Low → Lowering
@@ -104,7 +105,7 @@ written l m p = record { wires = p.wires; entries = l.entries; ports = replaced 
 -- What stands after an action under a condition.
 abbrev pub low_action : Shapes → Lowering → (when : Term Name) → Action → Lowering
 low_action ms l c (set x a) = assigned l x (low_set ms l c x a)
-low_action ms l c (put m i a) = written l m (low_put ms l.entries (port_of l.ports m) c i a l.wires)
+low_action ms l c (put m i a) = written l m (low_put ms l.entries m (port_of l.ports m) c i a l.wires)
 
 -- What stands after a guarded command.
 abbrev pub low_command : Shapes → Lowering → Command → Lowering

@@ -3,6 +3,7 @@ pub mod Reads
 pub mod Lowering
 pub mod Parts
 pub mod Lookup
+pub mod Writes
 pub mod Commands
 pub mod Lowered
 pub mod Same

@@ -12,3 +12,4 @@ mod parts;
 mod reads;
 mod wires;
 mod write_ports;
+mod writes;

@@ -17,6 +17,7 @@ use crate::first;
 use crate::parts::{Part, WritePort};
 use crate::wires::Wires;
 use crate::write_ports::{merge, present_port};
+use crate::writes::write_calc;
 use sap_fold::rules::same;
 use sap_ir::guarded::{Act, GuardedCmd};
 use sap_ir::program::Guarded;
@@ -205,16 +206,19 @@ impl Lowering {
                     memories,
                     index,
                 )?;
-                let value = lower_calc(
+                let write = write_calc(
                     alloc,
                     &mut self.wires,
                     &self.entries,
                     facts,
                     before,
                     memories,
+                    memory,
+                    when.operand,
+                    &index.operand,
                     value,
                 )?;
-                self.put(alloc, memory, when.operand, index.operand, value.operand)
+                self.put(alloc, memory, write.when, index.operand, write.value)
             }
         }
     }

@@ -205,7 +205,7 @@ pub all_ports : (n : Net) → IsNetlist n → (see : (x : Name) → Type 0)
     → ((k : PortKind) (x : Name) → is_among x (port_names n) ≡ true → PortShows n k x → see x) → AllByRecursion (λ p. see p.name) n.ports
 all_ports n rules see h = ports_seen n see h n.ports (each_among (λ x. is_among x (port_names n) ≡ true) (port_names n) (λ x t. t)) rules.ports_show
 
-memories_seen : (see : (x : Name) → Type 0) (ms : Shapes) → ((x : Name) (u : ℕ × ℕ) → find ms x ≡ Some u → see x) → (xs : List Memory)
+pub memories_seen : (see : (x : Name) → Type 0) (ms : Shapes) → ((x : Name) (u : ℕ × ℕ) → find ms x ≡ Some u → see x) → (xs : List Memory)
     → AreFound ms xs → AllByRecursion (λ m. see m.name) xs
 memories_seen see ms h [] a = tt
 memories_seen see ms h (m ∷ xs) a = (h m.name _ a.0, memories_seen see ms h xs a.1)

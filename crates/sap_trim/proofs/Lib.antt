@@ -15,3 +15,4 @@ pub mod Few
 pub mod Compose
 pub mod Marked
 pub mod Loops
+pub mod Unread

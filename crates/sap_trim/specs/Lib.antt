@@ -6,6 +6,7 @@ pub mod Folded
 pub mod Few
 pub mod Replaced
 pub mod Stays
+pub mod Unwritten
 pub mod Walked
 pub mod Tidied
 pub mod Needed

@@ -8,4 +8,5 @@ mod needed;
 mod replace;
 mod stays;
 pub mod trim;
+mod unwritten;
 mod walk;

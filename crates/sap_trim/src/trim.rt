@@ -23,6 +23,7 @@ use crate::left::wires_left;
 use crate::names;
 use crate::needed::needed;
 use crate::stays::{Stay, count_kept, folded_stays, stays};
+use crate::unwritten::without_reads;
 use crate::walk::Walk;
 use sap_fold::wires::Wires;
 use sap_net::netlist::Netlist;
@@ -243,10 +244,10 @@ fn number(
     numbered
 }
 
-/// A small netlist of which the same is seen: right sides are folded and shared, and wires that nothing reads are dropped. Folding by what the wires say that
+/// A netlist with right sides folded and shared, and without wires that nothing reads. Folding by what the wires say that
 /// a right side reads may need wires that the netlist before has not, so a round of it counts only where it leaves no more; and it goes on while more registers
 /// turn out to keep their start. At no time are there more than two netlists, or one and what is made of it.
-pub fn trim(alloc: Global, netlist: Netlist) -> Result<Netlist, AllocError>
+fn fold(alloc: Global, netlist: Netlist) -> Result<Netlist, AllocError>
     ensures declares { IfOk result (λ n. DeclaresAlike netlist n) }
     ensures same { IfOk result (λ n. RunsAlike netlist n) }
     ensures named { IfOk result (λ n. NamesWires n) }
@@ -285,4 +286,23 @@ pub fn trim(alloc: Global, netlist: Netlist) -> Result<Netlist, AllocError>
     }
     small.rules();
     number(alloc, small, &known, kept)
+}
+
+/// A small netlist of which the same is seen: reads of memories that nothing writes are numbers, right sides are folded and shared, and wires that nothing
+/// reads are dropped.
+pub fn trim(alloc: Global, netlist: Netlist) -> Result<Netlist, AllocError>
+    ensures declares { IfOk result (λ n. DeclaresAlike netlist n) }
+    ensures same { IfOk result (λ n. RunsAlike netlist n) }
+    ensures named { IfOk result (λ n. NamesWires n) }
+    ensures numbered { IfOk result (λ n. NumbersWires n) }
+    ensures shared { IfOk result (λ n. SharesWires n) }
+    ensures folded { IfOk result (λ n. FoldsWires n) }
+    ensures copies { IfOk result (λ n. CopiesPorts n) }
+    ensures read { IfOk result (λ n. ReadsWires n) }
+    ensures few { IfOk result (λ n. HasFewWires netlist n) }
+{
+    netlist.rules();
+    let read = without_reads(alloc, netlist)?;
+    read.rules();
+    fold(alloc, read)
 }

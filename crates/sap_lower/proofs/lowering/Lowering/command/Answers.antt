@@ -27,10 +27,10 @@ returns c =
     let when = term_of c.args.cmd.now.when in
     let gate = c.in_ok-when.ensures in
     let index = c.in_ok-index-in-Put.ensures in
-    let value = c.in_ok-value-in-Put.ensures in
+    let write = c.in_ok-write-in-Put.ensures in
     let e =
     put_lowered ms l when c.lower_calc.new.wires c.in_ok-when.when c.len-before.result c.as_slice-facts.result.now gate.wires gate.part c.len-before.ensures
     (c.as_slice-facts.ensures.value ∙ c.in_ok-facts.ensures) c.in-Put.memory (term_of c.in-Put.index) (term_of c.in-Put.value) c.lower_calc-in-Put.new.wires
-    c.lower_calc-in-Put-2.new.wires c.in_ok-index-in-Put.index c.in_ok-value-in-Put.value index.wires index.part index.front value.wires value.part
+    c.write_calc.new.wires c.in_ok-index-in-Put.index c.in_ok-write-in-Put.write index.wires index.part index.front write.wires write.write
     ∙ ap (λ (a : Action). low_action ms l when a) (sym (ap action_of c.in-Put.is)) in
     subst (λ (q : Lowering). OnOk c.put.result (c.put.new.self ≡ q)) e c.put.ensures

@@ -4,7 +4,7 @@ use Rattle.sap_trim.specs.Few.{calculated, most_left}
 use Rattle.sap_trim.specs.Folded.{IsFolded}
 use Rattle.sap_trim.specs.Names.{shown_wires}
 use Rattle.sap_trim.specs.Needed.{MarksNeeded}
-use Rattle.sap_trim.proofs.trim.trim.Given as goal
+use Rattle.sap_trim.proofs.trim.fold.Given as goal
 
 abbrev pub invariant-loop-round : goal.invariant-loop-round
 invariant-loop-round l = record {
