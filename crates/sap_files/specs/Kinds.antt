@@ -21,6 +21,9 @@ use Rattle.sap_wave.specs.Dumps.{IsReading}
 use Rattle.sap_wave.specs.Read.{IsWaveFault}
 use Rattle.sap_wave.specs.Waves.{Wave}
 use Rattle.sap_wave.specs.declared.fault.WaveFault.{WaveFault}
+use Rattle.sap_system.specs.Listing.{Listing}
+use Rattle.sap_system.specs.SystemFile.{FirstFault as FirstSystemFault, IsSystemOfFile}
+use Rattle.sap_system.specs.declared.fault.SysFault.{SysFault}
 use Rattle.sap_machine.specs.Assembly.{assembled}
 use Rattle.sap_machine.specs.declared.fault.AsmFault.{AsmFault}
 use Rattle.sap_files.specs.Contents.{IsLatticeFile, IsWellFormedText}
@@ -28,7 +31,7 @@ use Rattle.sap_files.specs.DesignFaults.{IsDesignFault}
 use Rattle.sap_files.specs.StimulusTexts.{IsWholeStream}
 use Rattle.sap_files.specs.declared.fault.DesignFault.{DesignFault}
 use Rattle.sap_files.specs.declared.fault.DesignFault.TheVariants as design_fault
-use Rattle.sap_files.specs.Ending.{Refusal, lattice_refused, design_refused, stimulus_refused, module_refused, wave_refused, asm_refused}
+use Rattle.sap_files.specs.Ending.{Refusal, lattice_refused, design_refused, part_refused, system_refused, stimulus_refused, module_refused, wave_refused, asm_refused}
 
 -- What a file is read as: the number of bytes behind which it is read no further, if any; when its bytes stand for a
 -- value; and when they are refused, and why.
@@ -124,4 +127,22 @@ assembly_file place = record {
   Value = List ℕ;
   Stands = λ text words. assembled text ≡ Ok words;
   Refused = λ text why. (fault : AsmFault) × (why ≡ asm_refused place fault) × (assembled text ≡ Err fault);
+}
+
+-- System files.
+abbrev pub system_file : Kind
+system_file = record {
+  most = None;
+  Value = Listing;
+  Stands = IsSystemOfFile;
+  Refused = λ bytes why. (fault : SysFault) × (why ≡ system_refused fault) × FirstSystemFault bytes fault;
+}
+
+-- The design file of the part of this name, which a refusal tells.
+abbrev pub part_file : Levels → (part : List ℕ) → Kind
+part_file ls part = record {
+  most = Some most_bytes;
+  Value = DesignTree;
+  Stands = IsWellFormedText ls;
+  Refused = λ source why. (fault : DesignFault) × (why ≡ part_refused part fault) × IsDesignFault ls source fault;
 }
