@@ -1,0 +1,5 @@
+pub mod Moved
+pub mod MovedFaults
+pub mod MovedGrammar
+pub mod MovedNet
+pub mod Commented
