@@ -1,5 +1,5 @@
 -- Comment lines before a text are blanks before its first token: what follows them is read alike, at other places.
-use Rattle.sap_lemmas.proofs.Common.{◌≡◌, ◌↔◌, ◌+◌, ◌-◌, ℕ, zero, suc, true, list_all, List, [], ◌∷◌, ◌++◌, length, drop, refl, sym, ap, ◌∙◌, subst, arith, append_assoc, length-append, codes, map}
+use Rattle.sap_lemmas.proofs.Common.{◌≡◌, ◌↔◌, ◌+◌, ◌-◌, ℕ, true, list_all, List, [], ◌∷◌, ◌++◌, length, drop, refl, sym, ap, ◌∙◌, subst, arith, append_assoc, length-append, codes}
 use Rattle.sap_lemmas.proofs.Everywhere.{prefix_run}
 use Rattle.sap_lemmas.proofs.Lists.{drop_front}
 use Rattle.sap_text.specs.Blanks.{is_in_line}

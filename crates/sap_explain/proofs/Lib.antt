@@ -3,3 +3,8 @@ pub mod MovedFaults
 pub mod MovedGrammar
 pub mod MovedNet
 pub mod Commented
+pub mod NamesIn
+pub mod LevelLines
+pub mod GroupLines
+pub mod SiteLines
+pub mod CommentLines

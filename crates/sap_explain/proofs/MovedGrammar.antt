@@ -1,5 +1,5 @@
 -- The grammar reads tokens whose places are moved as the file whose places are moved alike.
-use Rattle.sap_lemmas.proofs.Common.{ℕ, List, [], ◌∷◌, map, ap}
+use Rattle.sap_lemmas.proofs.Common.{ℕ, List, map, ap}
 use Rattle.sap_vtext.specs.Items.{Mention, Number, Constant, Operand, Right, Port, Item, File}
 use Rattle.sap_vtext.specs.Tokens.{Word, Sign, Kind, Token, IsToken}
 use Rattle.sap_vtext.specs.Grammar as g

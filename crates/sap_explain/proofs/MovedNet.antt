@@ -3,7 +3,7 @@ use Rattle.sap_lemmas.proofs.Common.{◌≡◌, ℕ, List, [], ◌∷◌, refl, 
 use Rattle.sap_vtext.specs.Items.{Operand, Right, Port, Item, File}
 use Rattle.sap_vtext.specs.Items as item
 use Rattle.sap_vtext.specs.Modules.{netlist_of}
-use Rattle.sap_vtext.proofs.Bare.{bare_name, bare_number, bare_operand, bare_right, bare_item, bare_port, bare}
+use Rattle.sap_vtext.proofs.Bare.{bare_name, bare_operand, bare_right, bare_item, bare_port, bare}
 use Rattle.sap_vtext.proofs.BareNet.{bare_netlist}
 use Rattle.sap_explain.proofs.Moved.{moved_operand, moved_right, moved_item, moved_port, moved}
 

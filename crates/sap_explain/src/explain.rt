@@ -8,6 +8,7 @@ ghost use Rattle.sap_explain.specs.Explained.{IsExplained};
 ghost use Rattle.sap_explain.specs.Explanation.{design_comments, explanation};
 
 use crate::group::{push_all_below, push_group};
+use crate::laws::{comments_change_nothing, design_is_comments, levels_are_comments};
 use crate::level::push_levels;
 use crate::site::push_sites;
 use sap_check::Checked;
@@ -25,13 +26,16 @@ pub fn push_design(out: &mut Vec<u8>, part: &[u8], checked: &Checked) -> Result<
 }
 
 /// The text of a design's module behind the lines that explain it.
-pub fn explained(alloc: Global, checked: &Checked, module: &Bytes) -> Result<Bytes, AllocError>
-    ensures text { IfOk result (λ text. text ≡ explanation (levels_in checked.now) (tree_in checked.now) ++ module.now) }
-    ensures module { IfOk result (λ text. (net : Net) → IsModule module.now net → IsExplained (explanation (levels_in checked.now) (tree_in checked.now)) text) }
+pub fn explained(alloc: Global, checked: &Checked, plain: &Bytes) -> Result<Bytes, AllocError>
+    ensures text { IfOk result (λ text. text ≡ explanation (levels_in checked.now) (tree_in checked.now) ++ plain.now) }
+    ensures module { IfOk result (λ text. (net : Net) → IsModule plain.now net → IsExplained (explanation (levels_in checked.now) (tree_in checked.now)) text net) }
 {
+    comments_change_nothing();
+    levels_are_comments(checked.lattice());
+    design_is_comments(b"", checked);
     let mut out = Vec::new(alloc);
     push_levels(&mut out, checked.lattice())?;
     push_design(&mut out, b"", checked)?;
-    out.extend_from_slice(module.as_slice())?;
+    out.extend_from_slice(plain.as_slice())?;
     Ok(Bytes::new(out))
 }

@@ -17,6 +17,7 @@ fn before(n: u64) -> &'static [u8]
     if n == 0 { b" " } else { b", " }
 }
 
+#[tactic(auto, using(crate::proofs::GroupLines::names))]
 fn push_child(out: &mut Vec<u8>, n: u64, child: &State) -> Result<(), AllocError>
     ensures { OnOk result (out.new.items ≡ out.old.items ++ child_text n (name_of (state_of child.now))) }
 {
@@ -51,6 +52,7 @@ fn push_line(
 }
 
 /// Appends the line of a group, where it has states.
+#[tactic(auto, using(crate::proofs::GroupLines::groups))]
 pub(crate) fn push_group(
     out: &mut Vec<u8>,
     part: &[u8],
@@ -67,10 +69,16 @@ pub(crate) fn push_group(
 }
 
 #[cycle(groups)]
+#[tactic(auto, using(crate::proofs::GroupLines::below))]
 fn push_below(out: &mut Vec<u8>, part: &[u8], state: &State) -> Result<(), AllocError>
     ensures { OnOk result (out.new.items ≡ out.old.items ++ groups_below part.now (state_of state.now)) }
 {
-    push_group(out, part, state.name.name.as_bytes(), state.children.as_slice())?;
+    push_group(
+        out,
+        part,
+        state.name.name.as_bytes(),
+        state.children.as_slice(),
+    )?;
     push_all_below(out, part, state.children.as_slice())
 }
 

@@ -11,7 +11,7 @@ use sap_lattice::lattice::Lattice;
 use sap_text::digits::push_number;
 use std::alloc::AllocError;
 
-#[tactic(auto, using(Rattle.sap_report.proofs.LevelLines::levels))]
+#[tactic(auto, using(crate::proofs::LevelLines::levels))]
 fn push_level(out: &mut Vec<u8>, lattice: &Lattice, place: u32) -> Result<(), AllocError>
     requires { place < length lattice.now.names }
     ensures { OnOk result (out.new.items ≡ out.old.items ++ (codes "// " ++ level_line (name_at lattice.now.names place) (code_of (order_of lattice.now) place))) }

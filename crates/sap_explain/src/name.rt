@@ -6,6 +6,7 @@ ghost use Rattle.sap_explain.specs.Explanation.{name_in};
 use std::alloc::AllocError;
 
 /// Appends a name of a module: a letter and `_`, the name of the part if there is one, and the rest.
+#[tactic(auto, using(crate::proofs::NamesIn::names))]
 pub(crate) fn push_name(
     out: &mut Vec<u8>,
     part: &[u8],
@@ -16,9 +17,11 @@ pub(crate) fn push_name(
     ensures { OnOk result (out.new.items ≡ out.old.items ++ name_in part.now (letter.now ++ rest.now)) }
 {
     out.extend_from_slice(letter)?;
-    if !part.is_empty() {
+    if part.is_empty() {
+        out.extend_from_slice(rest)
+    } else {
         out.extend_from_slice(part)?;
         out.extend_from_slice(b"_")?;
+        out.extend_from_slice(rest)
     }
-    out.extend_from_slice(rest)
 }
