@@ -8,6 +8,8 @@ use Rattle.sap_net.specs.Net.{Net}
 use Rattle.sap_stream.specs.declared.apart.Apart.{Apart}
 use Rattle.sap_sim.specs.Labelled.RunOf.{read_for as design_stimulus}
 use Rattle.sap_compile.specs.Compiles.{IsModuleFor}
+use Rattle.sap_explain.specs.Explained.{IsExplained}
+use Rattle.sap_explain.specs.Explanation.{explanation}
 use Rattle.sap_gen.specs.Text.{generated_text}
 use Rattle.sap_words.specs.Words.{Words, compile, link, run, trace, fmt, sim, taint, wave, unwave, report, twin, gen, machine, asm, cpu, command_of}
 use Rattle.sap_files.specs.Ending.{Ending, no_command, level_refused}
@@ -19,9 +21,9 @@ use Rattle.sap_files.specs.Uncompiled.{asks_asm, asks_canonical, asks_cpu, asks_
 use Rattle.sap_linking.specs.Asked.{asks_link}
 use Rattle.sap_files.specs.Asks.{Asks, file, with_the, gives, prints, writes, stops, Cause, IsOutput}
 
--- The text is one of a module for the design.
+-- The text is one of a module for the design, and begins with the lines that explain it.
 abbrev pub IsModuleText : Levels → DesignTree → (text : List ℕ) → Type 0
-IsModuleText ls d text = (net : Net) × IsModuleFor ls d net text
+IsModuleText ls d text = (net : Net) × IsModuleFor ls d net text × IsExplained (explanation ls d) text net
 
 -- What a command asks once its LEVEL is looked up: it is refused if that names no level, else it goes on with the
 -- level.
