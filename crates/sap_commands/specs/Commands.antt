@@ -14,6 +14,8 @@ use Rattle.sap_wave_rows.specs.Rows.{rows_of_wave}
 use Rattle.sap_wave_run.specs.Dumped.{IsDumpOn}
 use Rattle.sap_machine.specs.DesignText.{machine_text}
 use Rattle.sap_machine.specs.Text.{stimulus_text, users_text}
+use Rattle.sap_explain.specs.Explained.{IsExplained}
+use Rattle.sap_explain.specs.Explanation.{explanation}
 use Rattle.sap_gen.specs.Text.{generated_text}
 use Rattle.sap_words.specs.Words.{Words, compile, link, run, trace, fmt, sim, taint, wave, unwave, report, twin, gen, machine, asm, cpu, command_of}
 use Rattle.sap_files.specs.Ending.{Ending, no_command}
@@ -24,9 +26,9 @@ use Rattle.sap_commands.specs.Link.{asks_link}
 use Rattle.sap_commands.specs.Taint.{asks_taint}
 use Rattle.sap_commands.specs.Twin.{asks_twin}
 
--- The text is one of a module for the design.
+-- The text is one of a module for the design, and begins with the lines that explain it.
 abbrev pub IsModuleText : Levels → DesignTree → (text : List ℕ) → Type 0
-IsModuleText ls d text = (net : Net) × IsModuleFor ls d net text
+IsModuleText ls d text = (net : Net) × IsModuleFor ls d net text × IsExplained (explanation ls d) text net
 
 -- What `compile` asks.
 abbrev pub asks_compile : (lattice design out : List ℕ) → Asks

@@ -1,13 +1,17 @@
 //! The command `compile`.
 
-ghost use Rattle.sap_commands.specs.Commands.{asks_compile};
+ghost use Rattle.std.specs.Prelude.{IfOk};
+ghost use Rattle.sap_check.specs.Checked.{levels_in, tree_in};
+ghost use Rattle.sap_commands.specs.Commands.{IsModuleText, asks_compile};
 ghost use Rattle.sap_files.specs.Steps.{Ends, ending_of, seen};
 
+use sap_check::Checked;
 use sap_compile::module_text;
-use sap_desk::Desk;
+use sap_desk::{Bytes, Desk};
+use sap_explain::explained;
 use sap_files::failure::Failure;
 use sap_files::{checked_of_file, lattice_of_file, write};
-use std::alloc::Global;
+use std::alloc::{AllocError, Global};
 
 /// Compiles a design file over a lattice file, and writes the module's text.
 pub fn compile<'a, D: Desk>(
@@ -21,6 +25,14 @@ pub fn compile<'a, D: Desk>(
 {
     let levels = lattice_of_file(alloc, desk, lattice)?;
     let checked = checked_of_file(alloc, desk, &levels, design)?;
-    let text = module_text(alloc, &checked)?;
+    let text = explained_text(alloc, &checked)?;
     write(desk, out, &text)
+}
+
+// The text of the module of a checked design, behind the lines that explain it.
+fn explained_text(alloc: Global, checked: &Checked) -> Result<Bytes, AllocError>
+    ensures { IfOk result (λ text. IsModuleText (levels_in checked.now) (tree_in checked.now) text) }
+{
+    let plain = module_text(alloc, checked)?;
+    explained(alloc, checked, &plain)
 }
