@@ -3,10 +3,11 @@
 ghost use Rattle.std.specs.Prelude.{◌≡◌, ◌≤◌, [], All, IfOk};
 ghost use Rattle.sap_stim.specs.Line.{IsSized};
 ghost use Rattle.sap_lines.specs.Reader.{IsNew};
-ghost use Rattle.sap_lines.specs.declared.stepping.TheConstants.{LARGE_BYTES};
+ghost use Rattle.sap_pieces.specs.declared.TheConstants.{LARGE_BYTES};
 
 use sap_desk::RowBuf;
-use sap_lines::{LARGE_BYTES, Lines};
+use sap_lines::Lines;
+use sap_pieces::LARGE_BYTES;
 use sap_stim::Fields;
 use std::alloc::{AllocError, Global};
 

@@ -2,7 +2,7 @@
 
 ghost use Rattle.std.specs.Prelude.{◌≡◌, ◌≤◌, []};
 ghost use Rattle.sap_lines.specs.Reader.{IsNew};
-ghost use Rattle.sap_lines.specs.declared.stepping.TheConstants.{LARGE_BYTES};
+ghost use Rattle.sap_pieces.specs.declared.TheConstants.{LARGE_BYTES};
 ghost use Rattle.sap_files.specs.Asks.{prints};
 ghost use Rattle.sap_lines.specs.Stepping.Followed.{blamed_for};
 ghost use Rattle.sap_lines.specs.Stepping.Pace.{printed_fault, printed_text};

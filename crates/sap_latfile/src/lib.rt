@@ -1,6 +1,7 @@
 //! Lattice files: TOML documents with the two keys `levels` and `below`.
 #![tactic(auto)]
 
+pub mod document;
 pub mod fault;
 pub mod laws;
 mod listing;

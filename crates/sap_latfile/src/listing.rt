@@ -1,38 +1,14 @@
 // The names and the pairs that a document lists.
 
-ghost use Rattle.std.specs.Prelude.{◌≡◌, ℕ, List, Some, IfOk, MatchOption, option_map};
-ghost use Rattle.toml.specs.Data.{as_str};
-ghost use Rattle.toml.specs.View.{view, table_view, items_view, array_view};
-ghost use Rattle.sap_latfile.specs.Document.{texts_of, pair_in, pair_of, pairs_of, array_at, Lists};
+ghost use Rattle.std.specs.Prelude.{◌≡◌, ℕ, List, IfOk, MatchOption, option_map};
+ghost use Rattle.toml.specs.View.{view, table_view, items_view};
+ghost use Rattle.sap_latfile.specs.Document.{pair_in, pair_of, pairs_of, Lists};
 ghost use Rattle.sap_lattice.specs.declared.pair.Pair.{Pair as PairOfNames};
 
+use crate::document::{array_at, text_of, texts_of};
 use sap_lattice::{Name, Pair};
 use std::alloc::{AllocError, Global};
 use toml::{Table, Value};
-
-/// The text of a value that is a string.
-fn text_of(alloc: Global, value: &Value) -> Result<Option<Name>, AllocError>
-    ensures { IfOk result (λ name. name ≡ as_str (view value.now)) }
-{
-    match value.as_str() {
-        Some(text) => Ok(Some(Name::new(String::from_str(alloc, text)?))),
-        None => Ok(None),
-    }
-}
-
-/// The texts of values that are all strings.
-fn texts_of(alloc: Global, values: &[Value]) -> Result<Option<Vec<Name>>, AllocError>
-    ensures { IfOk result (λ names. option_map (λ v. v.items) names ≡ texts_of (items_view values.now)) }
-{
-    let mut names = Vec::new(alloc);
-    for value in values {
-        match text_of(alloc, value)? {
-            Some(name) => names.push(name)?,
-            None => return Ok(None),
-        }
-    }
-    Ok(Some(names))
-}
 
 /// The pair of a value that is an array of two strings.
 fn pair_of(alloc: Global, value: &Value) -> Result<Option<Pair>, AllocError>
@@ -69,16 +45,6 @@ fn pairs_of(alloc: Global, values: &[Value]) -> Result<Option<Vec<Pair>>, AllocE
         }
     }
     Ok(Some(pairs))
-}
-
-/// The array at a key.
-fn array_at<'a>(table: &'a Table, key: &str) -> Option<&'a Vec<Value>>
-    ensures { option_map (λ v. array_view v.now) result ≡ array_at key.now (table_view table.now) }
-{
-    match table.get(key) {
-        Some(value) => value.as_array(),
-        None => None,
-    }
 }
 
 /// The names and the pairs that a document lists.

@@ -1,58 +1,15 @@
 // Names of levels, and which byte strings may be one.
 
-ghost use Rattle.std.specs.Prelude.{◌≡◌};
-ghost use Rattle.std.specs.List.{list_all, list_any};
-ghost use Rattle.std.specs.Str.{bytes_eq};
-ghost use Rattle.sap_text.specs.Names.{is_word, is_inner, is_among, design_keywords};
+ghost use Rattle.std.specs.Prelude.{◌≡◌, ◌||◌, not, nat_lt, length};
+ghost use Rattle.sap_text.specs.Names.{is_word, is_among, design_keywords};
 
+use crate::MOST_NAME_BYTES;
 pub use sap_text::name::Name;
-use sap_text::scan::{Class, is_in, is_initial};
+use sap_text::words::{is_keyword, is_word};
 
-/// Whether these bytes have the form of a name; a keyword has it too.
-pub(crate) fn is_word(bytes: &[u8]) -> bool
-    ensures { result ≡ is_word bytes.now }
+/// Whether no level may have this name.
+pub fn is_unfit(name: &[u8]) -> bool
+    ensures { result ≡ (not (is_word name.now) || (is_among name.now design_keywords || nat_lt MOST_NAME_BYTES (length name.now))) }
 {
-    match bytes.split_first() {
-        Some((first, others)) => is_initial(*first) && are_inner(others),
-        None => false,
-    }
-}
-
-fn are_inner(bytes: &[u8]) -> bool
-    ensures { result ≡ list_all is_inner bytes.now }
-{
-    bytes.iter().all(|c| is_in(Class::Inner, *c))
-}
-
-const KEYWORDS: [&[u8]; 17] = [
-    b"input",
-    b"reg",
-    b"mem",
-    b"state",
-    b"dynamic",
-    b"enforced",
-    b"under",
-    b"if",
-    b"else",
-    b"goto",
-    b"fall",
-    b"setTag",
-    b"otherwise",
-    b"tag",
-    b"level",
-    b"join",
-    b"zext",
-];
-
-/// Whether these bytes are a keyword of the design language.
-pub(crate) fn is_keyword(bytes: &[u8]) -> bool
-    ensures { result ≡ is_among bytes.now design_keywords }
-{
-    is_among(bytes, KEYWORDS.as_slice())
-}
-
-fn is_among(bytes: &[u8], words: &[&[u8]]) -> bool
-    ensures { result ≡ list_any (λ word. bytes_eq bytes.now word.now) words.now }
-{
-    words.iter().any(|word| bytes == *word)
+    !is_word(name) || is_keyword(name) || name.len() > MOST_NAME_BYTES
 }

@@ -1,14 +1,13 @@
 // The rules on the names and the pairs of a lattice.
 
-ghost use Rattle.std.specs.Prelude.{◌≡◌, ◌≢◌, ◌<◌, ◌↔◌, ◌||◌, ℕ, List, not, nat_lt, IsTrue, IfErr, OnOk, MatchOption, [], length, position, slice_index_or};
+ghost use Rattle.std.specs.Prelude.{◌≡◌, ◌≢◌, ◌<◌, ◌↔◌, ℕ, List, IsTrue, IfErr, OnOk, MatchOption, [], length, position, slice_index_or};
 ghost use Rattle.std.specs.Str.{bytes_eq};
-ghost use Rattle.sap_text.specs.Names.{is_word, is_among, design_keywords};
 ghost use Rattle.sap_lattice.specs.Rules.{BadLevel, IsFirst, FirstBroken, KeepsNames};
 ghost use Rattle.sap_lattice.specs.declared.pair.Pair.{Pair as PairOfNames};
 
+use crate::MOST_LEVELS;
 use crate::fault::LatFault;
-use crate::name::{Name, is_keyword, is_word};
-use crate::{MOST_LEVELS, MOST_NAME_BYTES};
+use crate::name::{Name, is_unfit};
 
 /// The place of a name among the names.
 pub fn place_of(names: &[Name], name: &[u8]) -> Option<usize>
@@ -24,13 +23,6 @@ fn stands_earlier(names: &[Name], k: usize) -> bool
         ↔ ((j : ℕ) × (j < k) × (slice_index_or names.now j [] ≡ slice_index_or names.now k [])) }
 {
     place_of(&names[..k], names[k].as_bytes()).is_some()
-}
-
-/// Whether no level may have this name.
-fn is_unfit(name: &[u8]) -> bool
-    ensures { result ≡ (not (is_word name.now) || (is_among name.now design_keywords || nat_lt MOST_NAME_BYTES (length name.now))) }
-{
-    !is_word(name) || is_keyword(name) || name.len() > MOST_NAME_BYTES
 }
 
 fn is_bad(names: &[Name], k: usize) -> bool

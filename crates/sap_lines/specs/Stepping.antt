@@ -1,5 +1,4 @@
 pub mod Pace
 pub mod Followed
 pub mod Printed
-pub mod Waiting
 pub mod Cycles

@@ -16,7 +16,7 @@ mod taken;
 pub use lines::Lines;
 pub use next::Next;
 use sap_stim::MOST_LINE_BYTES;
-pub use stepping::{FailedCall, LARGE_BYTES, Steps, Stopped, print};
+pub use stepping::{FailedCall, Steps, Stopped, print};
 
 /// How many bytes are read at a time.
 pub const PIECE_BYTES: usize = 4096;

@@ -12,6 +12,3 @@ mod waiting;
 pub use printing::print;
 pub use steps::Steps;
 pub use stopped::{FailedCall, Stopped};
-
-/// How many bytes wait at most to be written.
-pub const LARGE_BYTES: usize = 65_536;

@@ -177,7 +177,7 @@ module _ (w : World) (laws : Laws w.order) where
   root_fits hang p (and_node (state_node c b k) g) q n fine sized zero s f = state_fits (state_node c b k) p q n fine.0 sized.0 _ (f.levels _) _ (fits_raise s hang _ f)
   root_fits hang p (and_node t g) q n fine sized (suc m) s f = root_fits hang p g q (suc n) fine.1 sized.1 m s f
 
-abbrev Fit : ℕ → ℕ → Tagged → Type 0
+abbrev pub Fit : ℕ → ℕ → Tagged → Type 0
 Fit count u t = (t.number < 2 ^ u) × (t.level < count)
 
 head_fits : (count u : ℕ) (us : List ℕ) (ts : List Tagged) (d : Tagged) → AllFit count (u ∷ us) ts → Fit count u (get_or ts 0 d)
@@ -190,7 +190,7 @@ tail_fits count u us [] d n v f h = absurd h
 tail_fits count u us (t ∷ ts) d n v f h = f ts h.2
 
 -- an input gets a number within its width, and a level
-given_fits : (count : ℕ) (d : Tagged) (es : List Entity) (ts : List Tagged) → AllFit count (input_widths es) ts → (x : ℕ)
+pub given_fits : (count : ℕ) (d : Tagged) (es : List Entity) (ts : List Tagged) → AllFit count (input_widths es) ts → (x : ℕ)
     → kind_is_input (get_or es x nothing).kind ≡ true → Fit count (get_or es x nothing).width (get_or ts (inputs_before es x) d)
 given_fits count d [] ts fit zero i = cc
 given_fits count d [] ts fit (suc x) i = cc

@@ -6,7 +6,7 @@ pub mod Commands
 pub mod Keeps
 pub mod Holding
 mod Listed
-mod Fitting
+pub mod Fitting
 mod Rising
 mod Computed
 pub mod Sampled

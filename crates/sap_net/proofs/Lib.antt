@@ -9,5 +9,6 @@ pub mod InputLemmas
 pub mod NamesLemmas
 pub mod NameMaps
 pub mod RulesLemmas
+pub mod NameTexts
 pub mod Places
 pub mod Beginning

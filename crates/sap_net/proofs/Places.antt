@@ -12,7 +12,7 @@ further : (o p : Option ℕ) (k : ℕ) → ((j : ℕ) → o ≡ Some j → p ≡
 further None p k h e = absurd (cc)
 further (Some j) p k h e = ap (option_map suc) (h j refl) ∙ e
 
-place_push_old : (xs : List Name) (y n : Name) (k : ℕ) → place_in xs n ≡ Some k → place_in (xs ++ y ∷ []) n ≡ Some k
+pub place_push_old : (xs : List Name) (y n : Name) (k : ℕ) → place_in xs n ≡ Some k → place_in (xs ++ y ∷ []) n ≡ Some k
 place_push_old [] y n k h = absurd (cc)
 place_push_old (x ∷ xs) y n k h =
     elim (cases_Bool (bytes_eq x n)) [
@@ -20,7 +20,7 @@ place_push_old (x ∷ xs) y n k h =
       | inr f ↦ rw f (further (place_in xs n) (place_in (xs ++ y ∷ []) n) k (λ j g. place_push_old xs y n j g) (rw f at h))
     ]
 
-place_push_here : (xs : List Name) (y : Name) → place_in xs y ≡ None → place_in (xs ++ y ∷ []) y ≡ Some (length xs)
+pub place_push_here : (xs : List Name) (y : Name) → place_in xs y ≡ None → place_in (xs ++ y ∷ []) y ≡ Some (length xs)
 place_push_here [] y h = rw (bytes_eq_same y) refl
 place_push_here (x ∷ xs) y h =
     elim (cases_Bool (bytes_eq x y)) [
@@ -28,7 +28,7 @@ place_push_here (x ∷ xs) y h =
       | inr f ↦ rw f (ap (option_map suc) (place_push_here xs y (none_further (place_in xs y) (rw f at h))))
     ]
 
-place_push_other : (xs : List Name) (y n : Name) → bytes_eq y n ≡ false → place_in (xs ++ y ∷ []) n ≡ place_in xs n
+pub place_push_other : (xs : List Name) (y n : Name) → bytes_eq y n ≡ false → place_in (xs ++ y ∷ []) n ≡ place_in xs n
 place_push_other [] y n f = rw f refl
 place_push_other (x ∷ xs) y n f = ap (λ o. if bytes_eq x n then Some zero else option_map suc o) (place_push_other xs y n f)
 

@@ -5,3 +5,4 @@ pub mod laws;
 pub mod name_map;
 pub mod netlist;
 pub mod parts;
+pub mod port_names;

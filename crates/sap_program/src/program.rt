@@ -90,6 +90,26 @@ pub enum Step {
     },
 }
 
+impl Step {
+    ghost use Rattle.std.specs.Prelude.{◌≡◌, ℕ};
+    ghost use Rattle.sap_meaning.specs.Checks.{site_of};
+    ghost use Rattle.sap_program.specs.Views.{step_of};
+
+    /// The number of a step as a check site.
+    pub fn site(&self) -> u32
+        ensures { (n : ℕ) → result ≡ site_of (step_of n self.now) }
+    {
+        match self {
+            Step::Set { site, .. } => *site,
+            Step::Write { site, .. } => *site,
+            Step::Retag { site, .. } => *site,
+            Step::RetagCell { site, .. } => *site,
+            Step::Goto { site, .. } => *site,
+            Step::Fall { site, .. } => *site,
+        }
+    }
+}
+
 /// A step alone, a step with its handler, a choice, a step with what follows it where it is accepted and where it is refused, and a choice of an
 /// arm, all but the first with what hangs on them.
 #[cycle(command)]

@@ -2,7 +2,6 @@
 
 ghost use Rattle.std.specs.Prelude.{◌≡◌, ◌<◌, ◌≤◌, ℕ, IsTrue, [], ◌∷◌, find, option_map, slice_set};
 ghost use Rattle.sap_meaning.specs.Checks as checks;
-ghost use Rattle.sap_meaning.specs.Checks.{site_of};
 ghost use Rattle.sap_meaning.specs.Does.{is_constant};
 ghost use Rattle.sap_meaning.specs.Program as program;
 ghost use Rattle.sap_meaning.specs.Runs.{listed_alone};
@@ -343,22 +342,8 @@ fn attempt(
         commands(environment, at, store, marks, accepted, inner);
     } else {
         raise(environment, store, hang, level);
-        mark(marks, site(step), inner);
+        mark(marks, step.site(), inner);
         commands(environment, at, store, marks, refused, inner);
-    }
-}
-
-/// The number of a step as a check site.
-fn site(step: &Step) -> u32
-    ensures { (n : ℕ) → result ≡ site_of (views.step_of n step.now) }
-{
-    match step {
-        Step::Set { site, .. } => *site,
-        Step::Write { site, .. } => *site,
-        Step::Retag { site, .. } => *site,
-        Step::RetagCell { site, .. } => *site,
-        Step::Goto { site, .. } => *site,
-        Step::Fall { site, .. } => *site,
     }
 }
 

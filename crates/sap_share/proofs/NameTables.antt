@@ -1,38 +1,14 @@
 -- The places of names on a list, and a look-up of them as one more name is added.
-use Rattle.sap_lemmas.proofs.Common.{◌≡◌, ℕ, zero, suc, List, [], ◌∷◌, ◌++◌, Option, Some, None, false, length, sym, ap, ◌∙◌, subst, refl, inl, inr, if◌then◌else◌, bytes_eq, option_map, cases_Bool, bytes_eq_same, equal_of_bytes_eq}
+use Rattle.sap_lemmas.proofs.Common.{◌≡◌, ℕ, List, [], ◌∷◌, ◌++◌, Option, Some, None, length, sym, ap, ◌∙◌, subst, refl, inl, inr, if◌then◌else◌, bytes_eq, cases_Bool, equal_of_bytes_eq}
 use Rattle.std.specs.HashMap as hash
 use Rattle.sap_maps.specs.Maps.{Name}
 use Rattle.sap_net.specs.NameMaps.{AtPlaces, Puts, place_in}
-use Rattle.sap_net.proofs.Places.{none_further}
+use Rattle.sap_net.proofs.Places.{place_push_here, place_push_old, place_push_other}
 use Rattle.sap_share.specs.NameTables.{NameTable, of_name}
 
 -- what the insertion of a name leaves at all names
 pub puts : {X : Type 0} (m n : NameTable X) (key x : Name) (o : X) → key ≡ x → hash.Updates bytes_eq m n key (Some o) → Puts (of_name m) x o (of_name n)
 puts m n key x o e h y = subst (λ (k : Name). of_name n y ≡ (if bytes_eq k y then Some o else of_name m y)) e (h.0 y)
-
-further : (o p : Option ℕ) (k : ℕ) → ((j : ℕ) → o ≡ Some j → p ≡ Some j) → option_map suc o ≡ Some k → option_map suc p ≡ Some k
-further None p k h e = absurd (cc)
-further (Some j) p k h e = ap (option_map suc) (h j refl) ∙ e
-
-place_push_old : (xs : List Name) (y n : Name) (k : ℕ) → place_in xs n ≡ Some k → place_in (xs ++ y ∷ []) n ≡ Some k
-place_push_old [] y n k h = absurd (cc)
-place_push_old (x ∷ xs) y n k h =
-    elim (cases_Bool (bytes_eq x n)) [
-      | inl t ↦ rw t (rw t at h)
-      | inr f ↦ rw f (further (place_in xs n) (place_in (xs ++ y ∷ []) n) k (λ j g. place_push_old xs y n j g) (rw f at h))
-    ]
-
-place_push_here : (xs : List Name) (y : Name) → place_in xs y ≡ None → place_in (xs ++ y ∷ []) y ≡ Some (length xs)
-place_push_here [] y h = rw (bytes_eq_same y) refl
-place_push_here (x ∷ xs) y h =
-    elim (cases_Bool (bytes_eq x y)) [
-      | inl t ↦ absurd (let g : Some zero ≡ None = rw t at h in cc)
-      | inr f ↦ rw f (ap (option_map suc) (place_push_here xs y (none_further (place_in xs y) (rw f at h))))
-    ]
-
-place_push_other : (xs : List Name) (y n : Name) → bytes_eq y n ≡ false → place_in (xs ++ y ∷ []) n ≡ place_in xs n
-place_push_other [] y n f = rw f refl
-place_push_other (x ∷ xs) y n f = ap (λ o. if bytes_eq x n then Some zero else option_map suc o) (place_push_other xs y n f)
 
 -- a name that has no place, at the place behind all
 pub added_new : (at at' : Name → Option ℕ) (names : List Name) (y : Name) (k : ℕ) → at y ≡ None → Puts at y k at' → length names ≡ k → AtPlaces at names

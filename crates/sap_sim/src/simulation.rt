@@ -59,7 +59,8 @@ impl Model for Simulation {
         × (s.labels.items ≡ s.plan.shown.names.items) };
 }
 
-fn zeros(alloc: Global, count: usize) -> Result<Vec<u64>, AllocError>
+/// As many numbers, each 0.
+pub fn zeros(alloc: Global, count: usize) -> Result<Vec<u64>, AllocError>
     ensures { IfOk result (λ zeros. length zeros.items ≡ count) }
 {
     let mut zeros = Vec::new(alloc);

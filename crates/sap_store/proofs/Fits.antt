@@ -1,7 +1,8 @@
 -- Numbers stay within their widths.
 use Rattle.std.proofs.lemmas.Bool.{cond_both}
-use Rattle.sap_lemmas.proofs.Common.{◌≡◌, ℕ, zero, suc, ◌<◌, ◌^◌, true, List, [], ◌∷◌, get_or, sym, subst, inl, inr, cases_Bool}
-use Rattle.sap_meaning.specs.Prelude.{World, Entity, nothing, kind_is_input, is_input, width, Slot, Store, owner, number, same_slot, put_number, source, settle, Tagged, inputs_before, given, input_widths, AllFit, InputsFit}
+use Rattle.sap_lemmas.proofs.Common.{◌≡◌, ℕ, ◌<◌, ◌^◌, true, List, sym, subst}
+use Rattle.sap_meaning.specs.Prelude.{World, is_input, width, Slot, Store, owner, number, same_slot, put_number, source, settle, Tagged, given, InputsFit}
+use Rattle.sap_meaning.proofs.Fitting.{given_fits}
 use Rattle.sap_meaning.proofs.Slots.{slot_same, owner_source}
 use Rattle.sap_store.specs.declared.store.Store as kept
 use Rattle.sap_store.specs.Kept.{store_of, Shaped, Ready}
@@ -22,28 +23,6 @@ module _ (w : World) where
   -- what is seen as a store with the same numbers, or with numbers that fit, is ready
   pub ready_as : (s : kept.Store) (t : Store) → Shaped w s → store_of w s ≡ t → Numbers w t → Ready w s
   ready_as s t shaped e f = record { shaped = shaped; numbers = subst (λ (r : Store). Numbers w r) (sym e) f }
-
-abbrev Fit : ℕ → ℕ → Tagged → Type 0
-Fit count u t = (t.number < 2 ^ u) × (t.level < count)
-
-head_fits : (count u : ℕ) (us : List ℕ) (ts : List Tagged) (d : Tagged) → AllFit count (u ∷ us) ts → Fit count u (get_or ts 0 d)
-head_fits count u us [] d h = absurd h
-head_fits count u us (t ∷ ts) d h = (h.0, h.1)
-
-tail_fits : (count u : ℕ) (us : List ℕ) (ts : List Tagged) (d : Tagged) (n v : ℕ)
-    → ((rest : List Tagged) → AllFit count us rest → Fit count v (get_or rest n d)) → AllFit count (u ∷ us) ts → Fit count v (get_or ts (suc n) d)
-tail_fits count u us [] d n v f h = absurd h
-tail_fits count u us (t ∷ ts) d n v f h = f ts h.2
-
-given_fits : (count : ℕ) (d : Tagged) (es : List Entity) (ts : List Tagged) → AllFit count (input_widths es) ts → (x : ℕ)
-    → kind_is_input (get_or es x nothing).kind ≡ true → Fit count (get_or es x nothing).width (get_or ts (inputs_before es x) d)
-given_fits count d [] ts fit zero i = cc
-given_fits count d [] ts fit (suc x) i = cc
-given_fits count d (e ∷ es) ts fit zero i = head_fits count e.width (input_widths es) ts d (rw i at fit)
-given_fits count d (e ∷ es) ts fit (suc x) i = elim (cases_Bool (kind_is_input e.kind)) [
-  | inl y ↦ rw y (tail_fits count e.width (input_widths es) ts d (inputs_before es x) (get_or es x nothing).width (λ rest h. given_fits count d es rest h x i) (rw y at fit))
-  | inr y ↦ rw y (given_fits count d es ts (rw y at fit) x i)
-]
 
 -- an input gets a number within its width
 pub input_fits : (w : World) (inputs : List Tagged) → InputsFit w inputs → (x : ℕ) → is_input w x ≡ true → (given w inputs x).number < 2 ^ width w x

@@ -1,39 +1,14 @@
 // The parts and the wires that a document lists.
 
-ghost use Rattle.std.specs.Prelude.{◌≡◌, Some, IfOk, MatchOption, option_map};
-ghost use Rattle.toml.specs.Data.{as_str};
-ghost use Rattle.toml.specs.View.{view, table_view, items_view, array_view};
-ghost use Rattle.sap_latfile.specs.Document.{texts_of, array_at};
+ghost use Rattle.std.specs.Prelude.{◌≡◌, IfOk, MatchOption, option_map};
+ghost use Rattle.toml.specs.View.{view, table_view, items_view};
 ghost use Rattle.sap_system.specs.Document.{part_in, wire_in, texts_in, part_of, wire_of, parts_of, wires_of, Lists};
 ghost use Rattle.sap_system.specs.Listing.{Listing, listing};
 
 use crate::file::{Name, Part, WireText};
+use sap_latfile::document::{array_at, texts_of};
 use std::alloc::{AllocError, Global};
 use toml::{Table, Value};
-
-/// The text of a value that is a string.
-fn text_of(alloc: Global, value: &Value) -> Result<Option<Name>, AllocError>
-    ensures { IfOk result (λ name. name ≡ as_str (view value.now)) }
-{
-    match value.as_str() {
-        Some(text) => Ok(Some(Name::new(String::from_str(alloc, text)?))),
-        None => Ok(None),
-    }
-}
-
-/// The texts of values that are all strings.
-fn texts_of(alloc: Global, values: &[Value]) -> Result<Option<Vec<Name>>, AllocError>
-    ensures { IfOk result (λ names. option_map (λ v. v.items) names ≡ texts_of (items_view values.now)) }
-{
-    let mut texts = Vec::new(alloc);
-    for value in values {
-        match text_of(alloc, value)? {
-            Some(text) => texts.push(text)?,
-            None => return Ok(None),
-        }
-    }
-    Ok(Some(texts))
-}
 
 /// The texts of a value that is an array of strings.
 fn texts_in(alloc: Global, value: &Value) -> Result<Option<Vec<Name>>, AllocError>
@@ -116,16 +91,6 @@ fn wires_of(alloc: Global, values: &[Value]) -> Result<Option<Vec<WireText>>, Al
         }
     }
     Ok(Some(wires))
-}
-
-/// The array at a key.
-fn array_at<'a>(table: &'a Table, key: &str) -> Option<&'a Vec<Value>>
-    ensures { option_map (λ v. array_view v.now) result ≡ array_at key.now (table_view table.now) }
-{
-    match table.get(key) {
-        Some(value) => value.as_array(),
-        None => None,
-    }
 }
 
 /// The parts and the wires that a document lists.

@@ -1,62 +1,11 @@
 // Which byte strings may be the name of a part.
 
-ghost use Rattle.std.specs.Prelude.{◌≡◌, ◌||◌, ◌==◌, not, nat_lt, length};
-ghost use Rattle.std.specs.List.{list_all, list_any};
-ghost use Rattle.std.specs.Str.{bytes_eq};
-ghost use Rattle.sap_text.specs.Names.{is_word, is_inner, is_among, design_keywords};
+ghost use Rattle.std.specs.Prelude.{◌≡◌, ◌||◌, not, nat_lt, length};
+ghost use Rattle.sap_text.specs.Names.{is_word, is_among, design_keywords};
+ghost use Rattle.sap_lattice.specs.declared.TheConstants.{MOST_NAME_BYTES};
 ghost use Rattle.sap_system.specs.Rules.{has_underscore};
 
-use sap_lattice::MOST_NAME_BYTES;
-use sap_text::scan::{Class, is_in, is_initial};
-
-fn are_inner(bytes: &[u8]) -> bool
-    ensures { result ≡ list_all is_inner bytes.now }
-{
-    bytes.iter().all(|c| is_in(Class::Inner, *c))
-}
-
-/// Whether these bytes have the form of a name; a keyword has it too.
-fn is_word(bytes: &[u8]) -> bool
-    ensures { result ≡ is_word bytes.now }
-{
-    match bytes.split_first() {
-        Some((first, others)) => is_initial(*first) && are_inner(others),
-        None => false,
-    }
-}
-
-const KEYWORDS: [&[u8]; 17] = [
-    b"input",
-    b"reg",
-    b"mem",
-    b"state",
-    b"dynamic",
-    b"enforced",
-    b"under",
-    b"if",
-    b"else",
-    b"goto",
-    b"fall",
-    b"setTag",
-    b"otherwise",
-    b"tag",
-    b"level",
-    b"join",
-    b"zext",
-];
-
-fn is_among(bytes: &[u8], words: &[&[u8]]) -> bool
-    ensures { result ≡ list_any (λ word. bytes_eq bytes.now word.now) words.now }
-{
-    words.iter().any(|word| bytes == *word)
-}
-
-/// Whether these bytes are a keyword of the first version of the design language.
-fn is_keyword(bytes: &[u8]) -> bool
-    ensures { result ≡ is_among bytes.now design_keywords }
-{
-    is_among(bytes, KEYWORDS.as_slice())
-}
+use sap_lattice::name;
 
 fn has_underscore(bytes: &[u8]) -> bool
     ensures { result ≡ has_underscore bytes.now }
@@ -64,16 +13,9 @@ fn has_underscore(bytes: &[u8]) -> bool
     bytes.iter().any(|c| *c == b'_')
 }
 
-/// Whether no level may have this name.
-fn is_unfit_level(name: &[u8]) -> bool
-    ensures { result ≡ (not (is_word name.now) || (is_among name.now design_keywords || nat_lt MOST_NAME_BYTES (length name.now))) }
-{
-    !is_word(name) || is_keyword(name) || name.len() > MOST_NAME_BYTES
-}
-
 /// Whether no part may have this name.
 pub fn is_unfit(name: &[u8]) -> bool
     ensures { result ≡ (not (is_word name.now) || (is_among name.now design_keywords || nat_lt MOST_NAME_BYTES (length name.now)) || has_underscore name.now) }
 {
-    is_unfit_level(name) || has_underscore(name)
+    name::is_unfit(name) || has_underscore(name)
 }

@@ -1,8 +1,7 @@
 //! Bodies of states.
 
-ghost use Rattle.std.specs.Prelude.{◌≡◌, ◌+◌, ◌++◌, ◌<◌, ◌≤◌, ◌^◌, ℕ, IfOk, OnOk, length, map};
+ghost use Rattle.std.specs.Prelude.{◌≡◌, ◌+◌, ◌++◌, ◌<◌, ◌≤◌, ◌^◌, IfOk, OnOk, length, map};
 ghost use Rattle.sap_ir.specs.Calcs.{term_of};
-ghost use Rattle.sap_meaning.specs.Checks.{site_of};
 ghost use Rattle.sap_meaning.specs.Expressions.{width_of as term_width};
 ghost use Rattle.sap_meaning.specs.Program as program;
 ghost use Rattle.sap_ir.specs.Plain.Nested.{cases, stop};
@@ -174,20 +173,6 @@ fn begin(
     raise_all(alloc, setting, out, hang.numbers(), k + 1)
 }
 
-/// The number of a step as a check site.
-fn site(step: &Step) -> u32
-    ensures { (n : ℕ) → result ≡ site_of (views.step_of n step.now) }
-{
-    match step {
-        Step::Set { site, .. } => *site,
-        Step::Write { site, .. } => *site,
-        Step::Retag { site, .. } => *site,
-        Step::RetagCell { site, .. } => *site,
-        Step::Goto { site, .. } => *site,
-        Step::Fall { site, .. } => *site,
-    }
-}
-
 /// Sets what tells of a refusal.
 #[tactic(auto, using(sap_tags_effects::proofs::Pushed::behind))]
 fn refuse(
@@ -199,7 +184,7 @@ fn refuse(
     requires { k + 5 < 2 ^ 32 }
     ensures { OnOk result (body_of out.new.items ≡ follow (body_of out.old.items) (spec.refusal (setting_in setting.now) k (views.step_of (entities_in setting.now) step.now) stop)) }
 {
-    let site = site(step);
+    let site = step.site();
     let refused = refused_name(setting, site);
     push(out, Act::Set(refused, yes()))?;
     let level = refused_level_name(setting, site);

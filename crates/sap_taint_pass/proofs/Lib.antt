@@ -13,7 +13,6 @@ pub mod Form
 pub mod Cycle
 pub mod FreeNames
 pub mod Carries
-pub mod NameTexts
 pub mod Clashing
 pub mod NextName
 pub mod Helped

@@ -1,7 +1,6 @@
 //! The names of tags, and which are taken.
 
-ghost use Rattle.std.specs.Prelude.{◌≡◌, ◌≢◌, ◌∷◌, ◌++◌, map, IfOk, IfErr, option_copied};
-ghost use Rattle.sap_net.specs.PortNames.{value_of};
+ghost use Rattle.std.specs.Prelude.{◌≡◌, ◌≢◌, ◌∷◌, ◌++◌, map, IfOk, IfErr};
 ghost use Rattle.sap_taint.specs.TagNames.{name_of_tag, HasRoomForTags};
 ghost use Rattle.sap_taint_pass.specs.FaultTexts.{IsTaintFault};
 ghost use Rattle.sap_taint_pass.specs.declared.fault.TaintFault.TheVariants.{Memory};
@@ -9,18 +8,10 @@ ghost use Rattle.sap_taint_pass.specs.declared.fault.TaintFault.TheVariants.{Mem
 use crate::fault::TaintFault;
 use sap_net::netlist::Netlist;
 use sap_net::parts::Name;
+use sap_net::port_names::behind_v;
 use sap_share::places::Places;
 use sap_text::name::copy_names;
 use std::alloc::{AllocError, Global};
-
-/// x, where a name is `v_x`.
-fn behind_v(name: &str) -> Option<&str>
-    ensures { option_copied result ≡ value_of name.now }
-{
-    let rest = name.strip_prefix('v')?;
-    let x = rest.strip_prefix('_')?;
-    if x.is_empty() { None } else { Some(x) }
-}
 
 /// The name of a name's tag.
 #[tactic(auto, unfolding(sap_taint::specs::TagNames::name_of_tag))]

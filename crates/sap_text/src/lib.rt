@@ -5,3 +5,4 @@ pub mod digits;
 pub mod name;
 pub mod place;
 pub mod scan;
+pub mod words;

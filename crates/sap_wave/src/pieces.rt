@@ -2,13 +2,12 @@
 
 ghost use Rattle.std.specs.Prelude.{◌≡◌, ◌==◌, true, bytes_eq, position, IfNone, IfSome};
 ghost use Rattle.std.specs.List.{list_all};
-ghost use Rattle.sap_text.specs.Names.{is_inner, is_word};
 ghost use Rattle.sap_net.specs.Names.{is_keyword, is_name};
 ghost use Rattle.sap_wave.specs.Digits.{are_digits, is_digit};
 ghost use Rattle.sap_wave.specs.Lines.{is_id, is_number};
 ghost use Rattle.sap_wave.specs.Pieces.{IsCut, is_not};
 
-use sap_text::scan::{Class, is_in, is_initial};
+use sap_text::words::is_word;
 
 /// What stands before a byte, and behind it.
 #[derive(Clone, Copy)]
@@ -96,21 +95,6 @@ fn is_keyword(name: &[u8]) -> bool
         || name == b"integer".as_slice()
         || name == b"clk".as_slice()
         || name == b"i".as_slice()
-}
-
-fn all_inner(text: &[u8]) -> bool
-    ensures { result ≡ list_all is_inner text.now }
-{
-    text.iter().all(|b| is_in(Class::Inner, *b))
-}
-
-fn is_word(text: &[u8]) -> bool
-    ensures { result ≡ is_word text.now }
-{
-    match text {
-        [] => false,
-        [first, rest @ ..] => is_initial(*first) && all_inner(rest),
-    }
 }
 
 /// Whether a text is a name of the module subset.

@@ -1,5 +1,5 @@
 -- Variables by their names.
-use Rattle.sap_lemmas.proofs.Common.{◌≡◌, ◌≢◌, ℕ, List, [], ◌∷◌, ◌++◌, Bool, false, Option, Some, None, length, refl, sym, ap, ◌∙◌, inl, inr, ◌==◌, ◌&&◌, unwrap_or, slice_get, option_map, bytes_eq, cases_Bool, Decides-eqb, append-nil, length-map, and_left}
+use Rattle.sap_lemmas.proofs.Common.{◌≡◌, ℕ, List, [], ◌∷◌, ◌++◌, Bool, false, Option, Some, None, length, refl, sym, ap, ◌∙◌, inl, inr, ◌==◌, unwrap_or, slice_get, option_map, bytes_eq, cases_Bool, append-nil, length-map}
 use Rattle.sap_maps.specs.Prelude.{Name, Scope, find}
 use Rattle.sap_net.specs.Prelude.{place_in, is_number, value_of, shown_among, shown_by}
 use Rattle.sap_sim.specs.Numbers.{place}
@@ -7,29 +7,6 @@ use Rattle.sap_sim.proofs.Maps.{place_found, place_behind}
 use Rattle.sap_wave.specs.declared.variable.Variable.{Variable}
 use Rattle.sap_wave.specs.Waves.{names_of}
 use Rattle.sap_wave_rows.specs.Rows.{widths_of}
-
--- a name that doesn't begin with `v` and `_` is that of no x
-pub not_behind_v : (name : Name) → ((rest : Name) → name ≢ 118 ∷ rest) → value_of name ≡ None
-not_behind_v [] h = refl
-not_behind_v (a ∷ []) h = refl
-not_behind_v (a ∷ (b ∷ [])) h = refl
-not_behind_v (a ∷ (b ∷ (c ∷ x))) h =
-    elim (cases_Bool (a == 118 && b == 95)) [
-      | inl t ↦ absurd (h (b ∷ (c ∷ x)) (ap (λ (l : ℕ). l ∷ (b ∷ (c ∷ x))) ((Decides-eqb a 118).0 (and_left (a == 118) (b == 95) t))))
-      | inr f ↦ rw f refl
-    ]
-
-not_behind : (rest : Name) → ((x : Name) → rest ≢ 95 ∷ x) → value_of (118 ∷ rest) ≡ None
-not_behind [] h = refl
-not_behind (b ∷ []) h = refl
-not_behind (b ∷ (c ∷ x)) h =
-    elim (cases_Bool (b == 95)) [
-      | inl t ↦ absurd (h (c ∷ x) (ap (λ (l : ℕ). l ∷ (c ∷ x)) ((Decides-eqb b 95).0 t)))
-      | inr f ↦ rw f refl
-    ]
-
-pub not_behind_line : (name rest : Name) → name ≡ 118 ∷ rest → ((x : Name) → rest ≢ 95 ∷ x) → value_of name ≡ None
-not_behind_line name rest e h = ap value_of e ∙ not_behind rest h
 
 -- the place of a name, by what a map has for it
 pub place_is : (xs : List Variable) (y : Name) (o : Option ℕ) → o ≡ place_in (names_of xs) y → unwrap_or o (length xs) ≡ place (names_of xs) y

@@ -12,6 +12,7 @@ use crate::shown::Shown;
 use sap_desk::RowBuf;
 use sap_lattice::Lattice;
 use sap_net::parts::Name;
+use sap_sim::simulation::zeros;
 use sap_stim::{
     RowHead, RowLabel, Short, labelled_row_into, labels_of, level_texts, row_array, row_room,
 };
@@ -28,14 +29,6 @@ pub struct Held {
     pub tags: Vec<u64>,
     pub array: Vec<u8>,
     pub row: RowBuf,
-}
-
-fn zeros(alloc: Global, count: usize) -> Result<Vec<u64>, AllocError>
-    ensures { IfOk result (λ zeros. length zeros.items ≡ count) }
-{
-    let mut zeros = Vec::new(alloc);
-    zeros.resize(count, 0)?;
-    Ok(zeros)
 }
 
 /// What the rows of the registers of these names are made with.

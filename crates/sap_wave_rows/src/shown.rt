@@ -1,7 +1,6 @@
 //! The variables of a wave that rows show.
 
 ghost use Rattle.std.specs.Prelude.{◌≡◌, ◌++◌, ℕ, List, IfOk, OnOk};
-ghost use Rattle.std.specs.Option.{option_copied};
 ghost use Rattle.sap_maps.specs.Scope.{find};
 ghost use Rattle.sap_net.specs.NameMaps.{Indexes};
 ghost use Rattle.sap_net.specs.PortNames.{is_number, tag_name, value_of};
@@ -13,6 +12,7 @@ ghost use Rattle.sap_wave_rows.specs.Rows.{widths_of};
 
 use sap_net::name_map::{at_name, index};
 use sap_net::parts::Name;
+use sap_net::port_names::behind_v;
 use sap_wave::Variable;
 use std::alloc::{AllocError, Global};
 use std::collections::HashMap;
@@ -47,15 +47,6 @@ fn is_wide(variables: &[Variable], at: usize, tag: u32) -> bool
         Some(variable) => variable.width == tag,
         None => false,
     }
-}
-
-/// x, where a name is `v_x`.
-fn behind_v(name: &str) -> Option<&str>
-    ensures { option_copied result ≡ value_of name.now }
-{
-    let rest = name.strip_prefix('v')?;
-    let x = rest.strip_prefix('_')?;
-    if x.is_empty() { None } else { Some(x) }
 }
 
 /// `t_x`.

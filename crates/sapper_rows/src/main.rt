@@ -5,10 +5,9 @@
 
 use sap_desk::MemoryDesk;
 use sap_help::answer;
-use sap_outcomes::{Seen, push_counts, push_difference, push_refusal};
 use sap_rows::{
-    Answer, Circumstance, File, Row, Step, Target, behind, bytes_put, further_run, further_runs,
-    read_table, steps_of,
+    Answer, Circumstance, File, Row, Seen, Step, Target, behind, bytes_put, further_run,
+    further_runs, push_counts, push_difference, push_refusal, read_table, steps_of,
 };
 use sapper::sapper;
 use std::alloc::{AllocError, Global};

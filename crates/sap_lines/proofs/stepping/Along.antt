@@ -20,6 +20,7 @@ use Rattle.sap_lines.specs.Stepping.Followed.{Going, last_place}
 use Rattle.sap_lines.specs.Stepping.Pace.{IsNeeded, IsWritten, Shows, printed_fault, printed_text}
 use Rattle.sap_lines.proofs.stepping.Between.{knowing_two}
 use Rattle.sap_lines.proofs.stepping.Going.{going_more, going_none, rest_now}
+use Rattle.sap_lines.proofs.stepping.Pieces.{written_is}
 use Rattle.sap_lines.proofs.stepping.Pace.{Wanted, front_more, needed_none, needed_read, read_further, read_none, written_more, written_none, written_read}
 
 -- of the contents of the desk: so much was read, these lines were given, and what the steps in their cycles show was written, but what waits
@@ -189,8 +190,8 @@ along_more base shows later back ls fs channel stands then r s cycle cycle_now g
       told =
           subst (λ (n : ℕ). Between before two (SoFar base later ls fs channel n (a.lines ++ s.line ∷ []) s left)) (sym gave)
           (knowing_two (SoFar base shows ls fs channel given a.lines r waiting) (SoFar base later ls fs channel (given + k) (a.lines ++ s.line ∷ []) s left)
-          (ReadFor ls channel Line r s asked k) (read_on channel asked k) (added 1 so.written.piece) before mid one two moved_on so.written.told
+          (ReadFor ls channel Line r s asked k) (read_on channel asked k) (added 1 so.written.part) before mid one two moved_on (written_is so.written.part one two so.written.told)
           (λ t m so_far known. line_so_far ls fs channel given asked k a.lines r s law few fields counts base shows back waiting a.quiet t m so_far known later so.text
           (λ shown is. so.adds (cycles_of a.lines) shown a.behind a.cycle_is is)
-          so.written.piece left so.written.whole) a.told read);
+          so.written.part left so.written.whole) a.told read);
     }

@@ -1,27 +1,26 @@
 -- The cycles of a line, one after another.
 use Rattle.sap_lemmas.proofs.Common.{◌≡◌, ℕ, ◌+◌, ◌-◌, ◌<◌, ◌≤◌, List, [], ◌∷◌, ◌++◌, length, replicate, take, append_assoc, refl, sym, ◌∙◌, ap, subst, inl, inr, arith, length-append, Option, cases_lt, append-nil, length-replicate, take_all, take-append-le}
 use Rattle.std.proofs.lemmas.List.{replicate-append-replicate, replicate_more}
-use Rattle.sap_desk.specs.Desk.{Told, added}
+use Rattle.sap_desk.specs.Desk.{Told}
 use Rattle.sap_desk.specs.Whole.{CutOutput}
-use Rattle.sap_desk.proofs.Steps.{option_map-id}
 use Rattle.sap_meaning.specs.Cycle.{Tagged as Given}
 use Rattle.sap_stream.specs.Spans.{Span, cycles_in}
 use Rattle.sap_lines.specs.Stepping.Cycles.{Adds, AddsAlong, CyclesCut, CyclesShown}
 use Rattle.sap_lines.specs.Stepping.Pace.{Shows}
-use Rattle.sap_lines.specs.Stepping.Waiting.{PieceWritten}
-use Rattle.sap_lines.proofs.stepping.Going.{added_none}
-use Rattle.sap_lines.proofs.stepping.Pieces.{cut_then, written_behind, written_then}
+use Rattle.sap_pieces.specs.Written.{PartWritten}
+use Rattle.sap_pieces.proofs.Written.{written_behind, written_then}
+use Rattle.sap_lines.proofs.stepping.Pieces.{cut_then}
 
 -- what was written behind that
 
 module _ (behind : List (List Given) → Type 0) (shows later : Shows) (count : ℕ) (waited waits : List ℕ) (before mid after : Option Told) where
-  pub shown_then : (cycles : List (List Given)) (left : List ℕ) → CyclesShown behind shows later count cycles waited waits before mid → PieceWritten waits left mid after
+  pub shown_then : (cycles : List (List Given)) (left : List ℕ) → CyclesShown behind shows later count cycles waited waits before mid → PartWritten 1 waits left mid after
       → CyclesShown behind shows later count cycles waited left before after
   shown_then cycles left so wrote = record {
     text = so.text;
     adds = so.adds;
     along = so.along;
-    written = written_then (waited ++ so.text) waits left before mid after so.written wrote;
+    written = written_then 1 (waited ++ so.text) waits before mid so.written left after wrote;
   }
 
   pub cut_last : (line : Span) → CyclesShown behind shows later count (cycles_in line) waited waits before mid → CutOutput waits mid after
@@ -41,7 +40,7 @@ none_shown behind shows count x waits now = record {
   text = [];
   adds = none_added;
   along = λ first. ([], [], subst (λ (cycles : List (List Given)). Adds behind shows shows count cycles []) (sym (take_all first [] (omega arith))) none_added, refl);
-  written = record { piece = []; whole = sym (append-nil waits); told = option_map-id (added 1 []) now (λ t. added_none [] t refl) };
+  written = record { part = []; whole = sym (append-nil waits); told = inl (refl, refl) };
 } where
   none_added : Adds behind shows shows count [] []
   none_added cycles shown h many is_shown =
@@ -79,9 +78,9 @@ module _ (behind now : List (List Given) → Type 0) (shows later last : Shows) 
       (subst (λ (l : List Given). last (so_far ++ l ∷ []) (shown ++ (so.text ++ text))) same
       (subst (last (so_far ++ line ∷ [])) (append_assoc shown so.text text) here))
 
-  written_so : PieceWritten (waited ++ (so.text ++ text)) (waits ++ text) before mid
+  written_so : PartWritten 1 (waited ++ (so.text ++ text)) (waits ++ text) before mid
   written_so =
-      subst (λ (l : List ℕ). PieceWritten l (waits ++ text) before mid) (append_assoc waited so.text text) (written_behind (waited ++ so.text) waits text before mid so.written)
+      subst (λ (l : List ℕ). PartWritten 1 l (waits ++ text) before mid) (append_assoc waited so.text text) (written_behind 1 (waited ++ so.text) waits text before mid so.written)
 
   along_more : ((cycles : List (List Given)) (shown : List ℕ) → last cycles shown → shows cycles shown) → AddsAlong behind shows count (replicate (i + 1) x) (so.text ++ text)
   along_more back first = elim (cases_lt i first) [
@@ -104,13 +103,13 @@ module _ (behind now : List (List Given) → Type 0) (shows later last : Shows) 
         )
   ]
 
-  pub shown_more : ((cycles : List (List Given)) (shown : List ℕ) → last cycles shown → shows cycles shown) → (left : List ℕ) → PieceWritten (waits ++ text) left mid after
+  pub shown_more : ((cycles : List (List Given)) (shown : List ℕ) → last cycles shown → shows cycles shown) → (left : List ℕ) → PartWritten 1 (waits ++ text) left mid after
       → CyclesShown behind shows last count (replicate (i + 1) x) waited left before after
   shown_more back left wrote = record {
     text = so.text ++ text;
     adds = adds_more;
     along = along_more back;
-    written = written_then (waited ++ (so.text ++ text)) (waits ++ text) left before mid after written_so wrote;
+    written = written_then 1 (waited ++ (so.text ++ text)) (waits ++ text) before mid written_so left after wrote;
   }
 
   pub cut_more : (n : ℕ) → i < n → CutOutput (waits ++ text) mid after → CyclesCut behind shows last count (record { inputs = x; count = n }) waited before after

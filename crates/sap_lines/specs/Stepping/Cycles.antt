@@ -5,7 +5,7 @@ use Rattle.sap_desk.specs.Whole.{CutOutput}
 use Rattle.sap_meaning.specs.Cycle.{Tagged as Given}
 use Rattle.sap_stream.specs.Spans.{Span}
 use Rattle.sap_lines.specs.Stepping.Pace.{Shows}
-use Rattle.sap_lines.specs.Stepping.Waiting.{PieceWritten}
+use Rattle.sap_pieces.specs.Written.{PartWritten}
 
 -- Behind so many others, these cycles add this text to what is shown.
 abbrev pub Adds : (behind : List (List Given) → Type 0) → (shows later : Shows) → (count : ℕ)
@@ -34,7 +34,7 @@ pub record CyclesShown (behind : List (List Given) → Type 0) (shows later : Sh
   pub text : List ℕ
   pub adds : Adds behind shows later count cycles text
   pub along : AddsAlong behind shows count cycles text
-  pub written : PieceWritten (waited ++ text) waits before after
+  pub written : PartWritten 1 (waited ++ text) waits before after
 
 -- A write failed: of what waited and what the first cycles of a line show only a part was written.
 pub record CyclesCut (behind : List (List Given) → Type 0) (shows later : Shows) (count : ℕ)

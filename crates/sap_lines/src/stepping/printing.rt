@@ -13,15 +13,15 @@ ghost use Rattle.sap_lines.specs.Stepping.Cycles.{CyclesCut, CyclesShown, StepSh
 ghost use Rattle.sap_lines.specs.Stepping.Followed.{Broken, Counts, FailsFor, Followed, GoesTooFar, IsFaultOfSome};
 ghost use Rattle.sap_lines.specs.Stepping.Pace.{printed_fault};
 ghost use Rattle.sap_lines.specs.Stepping.Printed.{CallFailed, MissingOrTooLong, Printed, Stops};
-ghost use Rattle.sap_lines.specs.Stepping.Waiting.{PieceWritten};
-ghost use Rattle.sap_lines.specs.declared.stepping.TheConstants.{LARGE_BYTES};
+ghost use Rattle.sap_pieces.specs.Written.{PartWritten};
+ghost use Rattle.sap_pieces.specs.declared.TheConstants.{LARGE_BYTES};
 
-use crate::stepping::LARGE_BYTES;
 use crate::stepping::steps::Steps;
 use crate::stepping::stopped::{FailedCall, Stopped};
 use crate::stepping::waiting::{flush_unless_held, show, write_text};
 use crate::{Lines, Next, lines_follow};
 use sap_desk::{Desk, DeskError, Failed, RowBuf};
+use sap_pieces::LARGE_BYTES;
 use sap_stim::StimFault;
 use sap_stream::Inputs;
 
@@ -42,7 +42,7 @@ fn step_once<D: Desk, S: Steps>(
     requires large { LARGE_BYTES ≤ waiting.old.room }
     // It is a step further.
     ensures behind { (cycles : List (List Given)) → S.behind steps.old cycles → S.behind steps.new (cycles ++ line.now ∷ []) }
-    ensures shown { OnOk result (StepShown (S.behind steps.old) (S.shows steps.old) (S.shows steps.new) cycle line.now (λ text. PieceWritten (waiting.old.bytes ++ text) waiting.new.bytes (D.told desk.old) (D.told desk.new))) }
+    ensures shown { OnOk result (StepShown (S.behind steps.old) (S.shows steps.old) (S.shows steps.new) cycle line.now (λ text. PartWritten 1 (waiting.old.bytes ++ text) waiting.new.bytes (D.told desk.old) (D.told desk.new))) }
     // Or a write failed.
     ensures cut { OnErr result (StepShown (S.behind steps.old) (S.shows steps.old) (S.shows steps.new) cycle line.now (λ text. CutOutput (waiting.old.bytes ++ text) (D.told desk.old) (D.told desk.new))) }
     ensures cause { OnErr result (D.sure desk.old → Between (D.told desk.old) (D.told desk.new) (λ t n. IsWriting (t.uses 1) → length (n.written 1) ≡ n.room)) }

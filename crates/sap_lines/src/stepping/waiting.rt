@@ -5,12 +5,12 @@ ghost use Rattle.sap_desk.specs.Cause.{FillsRoom};
 ghost use Rattle.sap_desk.specs.Desk.{IsWriting, added};
 ghost use Rattle.sap_desk.specs.Whole.{CountsFailed, CutOutput};
 ghost use Rattle.sap_lines.specs.Fetched.{IsDecided};
-ghost use Rattle.sap_lines.specs.Stepping.Waiting.{PieceWritten};
-ghost use Rattle.sap_lines.specs.declared.stepping.TheConstants.{LARGE_BYTES};
+ghost use Rattle.sap_pieces.specs.Written.{PartWritten};
+ghost use Rattle.sap_pieces.specs.declared.TheConstants.{LARGE_BYTES};
 
 use crate::Lines;
-use crate::stepping::LARGE_BYTES;
 use sap_desk::{Desk, Failed, RowBuf, write_output};
+use sap_pieces::LARGE_BYTES;
 
 /// Writes a text, if there is any.
 pub fn write_text<D: Desk>(desk: &mut D, text: &[u8]) -> Result<(), Failed>
@@ -41,7 +41,7 @@ fn add(waiting: &mut RowBuf, text: &[u8])
 
 // Writes what waits, where it must be written.
 fn write_on<D: Desk>(desk: &mut D, waiting: &mut RowBuf, must: bool) -> Result<(), Failed>
-    ensures written { OnOk result (PieceWritten waiting.old.bytes waiting.new.bytes (D.told desk.old) (D.told desk.new)) }
+    ensures written { OnOk result (PartWritten 1 waiting.old.bytes waiting.new.bytes (D.told desk.old) (D.told desk.new)) }
     ensures all { OnOk result (IsTrue must → waiting.new.bytes ≡ []) }
     ensures still { (must ≡ false) → desk.new ≡ desk.old }
     ensures less { length waiting.new.bytes ≤ length waiting.old.bytes }
@@ -64,7 +64,7 @@ fn write_on<D: Desk>(desk: &mut D, waiting: &mut RowBuf, must: bool) -> Result<(
 pub fn show<D: Desk>(desk: &mut D, waiting: &mut RowBuf, text: &[u8]) -> Result<(), Failed>
     requires few { length waiting.old.bytes ≤ LARGE_BYTES }
     requires room { LARGE_BYTES ≤ waiting.old.room }
-    ensures written { OnOk result (PieceWritten (waiting.old.bytes ++ text.now) waiting.new.bytes (D.told desk.old) (D.told desk.new)) }
+    ensures written { OnOk result (PartWritten 1 (waiting.old.bytes ++ text.now) waiting.new.bytes (D.told desk.old) (D.told desk.new)) }
     ensures still { length waiting.old.bytes + length text.now ≤ LARGE_BYTES → desk.new ≡ desk.old }
     ensures few { length waiting.new.bytes ≤ LARGE_BYTES }
     ensures room { waiting.old.room ≤ waiting.new.room }
@@ -90,7 +90,7 @@ pub fn flush_unless_held<D: Desk>(
     lines: &Lines,
     waiting: &mut RowBuf,
 ) -> Result<(), Failed>
-    ensures written { OnOk result (PieceWritten waiting.old.bytes waiting.new.bytes (D.told desk.old) (D.told desk.new)) }
+    ensures written { OnOk result (PartWritten 1 waiting.old.bytes waiting.new.bytes (D.told desk.old) (D.told desk.new)) }
     ensures quiet { OnOk result (IsDecided lines.now.pending ⊎ (waiting.new.bytes ≡ [])) }
     ensures less { length waiting.new.bytes ≤ length waiting.old.bytes }
     ensures room { waiting.old.room ≤ waiting.new.room }

@@ -1,7 +1,7 @@
 use Rattle.std.proofs.Common.{◌≡◌, ◌+◌, ◌≤◌, ◌++◌, ℕ, List, length, replicate}
 use Rattle.sap_meaning.specs.Cycle.{Tagged as Given}
 use Rattle.sap_lines.specs.Stepping.Cycles.{CyclesShown}
-use Rattle.sap_lines.specs.declared.stepping.TheConstants.{LARGE_BYTES}
+use Rattle.sap_pieces.specs.declared.TheConstants.{LARGE_BYTES}
 use Rattle.sap_lines.proofs.stepping.printing.step_line.Given as goal
 
 -- the cycles so far

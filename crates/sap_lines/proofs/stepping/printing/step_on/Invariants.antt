@@ -1,7 +1,7 @@
 use Rattle.sap_lemmas.proofs.Common.{◌≡◌, ◌<◌, ◌≤◌, ℕ, ◌-◌, List, length, true, ◌^◌}
 use Rattle.sap_meaning.specs.Cycle.{Tagged as Given}
 use Rattle.sap_lines.specs.Reader.{Backed}
-use Rattle.sap_lines.specs.declared.stepping.TheConstants.{LARGE_BYTES}
+use Rattle.sap_pieces.specs.declared.TheConstants.{LARGE_BYTES}
 use Rattle.sap_lines.proofs.stepping.Along.{Along}
 use Rattle.sap_lines.proofs.stepping.EveryDesk.{Gave}
 use Rattle.sap_lines.proofs.stepping.printing.step_on.Given as goal

@@ -1,6 +1,6 @@
 //! Texts and files against what is wanted of them.
 
-use sap_rows::{Comparison, Held, State, Wanted};
+use crate::table::{Comparison, Held, State, Wanted};
 
 fn is_within(part: &[u8], whole: &[u8]) -> bool {
     for start in 0..whole.len() {

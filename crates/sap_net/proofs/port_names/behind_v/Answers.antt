@@ -1,7 +1,7 @@
 use Rattle.sap_lemmas.proofs.Common.{Some, None, sym, ap, ◌∙◌, arith, option_copied}
 use Rattle.std.proofs.lemmas.Str.Pattern.{strip_prefix_char}
-use Rattle.sap_taint_pass.proofs.NameTexts.{not_behind_v, not_behind_line}
-use Rattle.sap_taint_pass.proofs.names.behind_v.Goals as goal
+use Rattle.sap_net.proofs.NameTexts.{not_behind_v, not_behind_line}
+use Rattle.sap_net.proofs.port_names.behind_v.Goals as goal
 
 pub returns-in_err-rest : goal.returns-in_err-rest
 returns-in_err-rest c =

@@ -1,11 +1,13 @@
 //! Differences and refusals as lines.
 
 ghost use Rattle.std.specs.Prelude.{◌≡◌, ◌<◌, ◌≤◌, ◌++◌, IfOk, OnOk, string_bytes, string_len, true, false};
-ghost use Rattle.sap_outcomes.specs.Told.{counts_line, refusal_line};
+ghost use Rattle.sap_rows.specs.Told.{counts_line, refusal_line};
 
 use crate::judging::first_wrong;
+use crate::refusal::{Refusal, Why};
+use crate::runs::Circumstance;
 use crate::seen::{Came, Seen};
-use sap_rows::{Answer, Circumstance, Refusal, Row, Why};
+use crate::table::{Answer, Row};
 use std::alloc::AllocError;
 
 // How much of a text is shown in quotes.

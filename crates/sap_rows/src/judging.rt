@@ -1,9 +1,10 @@
 //! What a run of a row left, against what the row says.
 
 use crate::fitting::{begins_with_any, count_of, fits, is_held};
+use crate::runs::{Circumstance, steps_of};
 use crate::seen::{Came, Seen};
+use crate::table::{Answer, Cut, Held, Row, State, Step, bytes_of};
 use crate::turns::came_of_turn;
-use sap_rows::{Answer, Circumstance, Cut, Held, Row, State, Step, bytes_of, steps_of};
 
 /// Where a row came out otherwise: its call, from 1, and how.
 #[derive(Clone, Copy)]

@@ -2,7 +2,7 @@
 
 use crate::fitting::exact;
 use crate::seen::{Came, Seen};
-use sap_rows::{Answer, State, Step};
+use crate::table::{Answer, State, Step};
 
 const OUTPUT: u8 = b'1';
 

@@ -1,6 +1,6 @@
 use Rattle.std.proofs.Common.{◌∙◌}
 use Rattle.toml.proofs.Views.{table_get}
-use Rattle.sap_latfile.proofs.listing.array_at.Goals as goal
+use Rattle.sap_latfile.proofs.document.array_at.Goals as goal
 
 pub returns-in-Some : goal.returns-in-Some
 returns-in-Some c =

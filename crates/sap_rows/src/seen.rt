@@ -1,6 +1,6 @@
 //! What a call left, and what of it is otherwise than a row says.
 
-use sap_rows::{Answer, File, bytes_of};
+use crate::table::{Answer, File, bytes_of};
 
 /// What a call left: its answer, what the channels gained by it, and the files that there are of those that its row names.
 #[derive(Drop)]
