@@ -10,12 +10,11 @@ use Rattle.sap_stream.specs.declared.apart.Apart.{Apart}
 use Rattle.sap_net.specs.Net.{Net}
 use Rattle.sap_interface.specs.Prelude.{named_of, world}
 use Rattle.sap_compile.specs.Compiles.{IsModuleFor}
-use Rattle.sap_files.specs.Prelude.{Ending, no_memory, stream_file, Asks, with_the, Finds, IsVerdict, agreement_line, difference, Ends, Moment, ending}
+use Rattle.sap_files.specs.Prelude.{Ending, no_memory, stream_file, Asks, with_the, Ends, Moment, ending}
+use Rattle.sap_commands.specs.Twin.{Finds, IsVerdict, agreement_line, difference, compared, IsAgreement}
 use Rattle.sap_files.specs.declared.failure.Failure.{Failure}
 use Rattle.sap_files.proofs.Ended.{chosen, quiet_self, starved, stopped_by}
 use Rattle.sap_files.proofs.Streams.{stream_fits}
-use Rattle.sap_commands.specs.Commands.{compared}
-use Rattle.sap_commands.specs.Twin.{IsAgreement}
 
 module _ (lattice : List ℕ) (ls : Levels) (is : IsLatticeOfFile lattice ls) (d : DesignTree) where
   -- the streams agree: so do the runs of each module for the design

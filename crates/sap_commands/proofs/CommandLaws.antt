@@ -9,7 +9,10 @@ use Rattle.sap_stream.specs.declared.apart.Apart.{Apart}
 use Rattle.sap_stream.proofs.Agreeing.{at_most_one}
 use Rattle.sap_sim.specs.Labelled.RunOf.{read_for as design_stimulus}
 use Rattle.sap_sim.specs.Simulated.{read_for as module_stimulus}
-use Rattle.sap_files.specs.Prelude.{Ending, Refusal, done, refused, failed, no_memory, taint_refused, wires_refused, status_of, status_of_refusal, IsFree, assembly_file, design_file, design_text_file, lattice_file, module_file, module_stream_file, stream_file, wave_file, IsVerdict, FirstClash, tagged_or_refused, asks_programs, Asks, file, with_the, AreLawful, MayEnd, end_of}
+use Rattle.sap_files.specs.Prelude.{Ending, Refusal, done, refused, failed, no_memory, taint_refused, wires_refused, status_of, status_of_refusal, IsFree, assembly_file, design_file, design_text_file, lattice_file, module_file, module_stream_file, stream_file, wave_file, Asks, file, with_the, AreLawful, MayEnd, end_of}
+use Rattle.sap_commands.specs.Twin.{IsVerdict, at_level, compared}
+use Rattle.sap_commands.specs.Taint.{FirstClash, tagged_or_refused}
+use Rattle.sap_commands.specs.Commands.{asks_programs, OneCause, OneOutput, asks, asks_for, asks_if}
 use Rattle.sap_taint_pass.specs.declared.fault.TaintFault.TheVariants.{Clash}
 use Rattle.sap_taint.proofs.Clashes.{no_clash_with_room, one_clash}
 use Rattle.sap_net.specs.Net.{Net}
@@ -18,10 +21,9 @@ use Rattle.sap_machine.specs.Text.{stimulus_text, users_text}
 use Rattle.sap_system.specs.declared.file.Part.{Part}
 use Rattle.sap_system.specs.declared.file.WireText.{WireText}
 use Rattle.sap_linked.specs.Designs.{NamedDesign}
-use Rattle.sap_linking.specs.Asked.{asks_parts, asks_wired}
-use Rattle.sap_linking.specs.Kinds.{part_file, system_file}
-use Rattle.sap_linking.proofs.Lawful.{lawful_link}
-use Rattle.sap_commands.specs.Commands.{OneCause, OneOutput, asks, asks_for, asks_if, at_level, compared}
+use Rattle.sap_commands.specs.Link.{asks_parts, asks_wired}
+use Rattle.sap_files.specs.Kinds.{part_file, system_file}
+use Rattle.sap_commands.proofs.LinkLawful.{lawful_link}
 use Rattle.sap_files.proofs.Lattices.{lattice_lawful}
 use Rattle.sap_files.proofs.Designs.{design_lawful, text_lawful}
 use Rattle.sap_files.proofs.Modules.{module_lawful}

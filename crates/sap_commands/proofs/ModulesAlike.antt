@@ -1,7 +1,7 @@
 -- Two lattices that are the same have the same modules for a design.
-use Rattle.std.proofs.Common.{ℕ, ◌+◌, ◌*◌, ◌≤◌, List, length, subst}
+use Rattle.std.proofs.Common.{◌≡◌, ℕ, ◌+◌, ◌*◌, ◌≤◌, List, [], ◌∷◌, ◌++◌, length, codes, refl, ap, ◌∙◌, subst}
 use Rattle.std.specs.List.{AllZip}
-use Rattle.sap_lattice.specs.Prelude.{Levels, order_of, Order, width_of}
+use Rattle.sap_lattice.specs.Prelude.{Levels, order_of, Order, code_of, width_of}
 use Rattle.sap_latfile.specs.OneLattice.{AreSame}
 use Rattle.sap_maps.specs.Maps.{Valuation}
 use Rattle.sap_meaning.specs.Prelude.{StreamsAgree, Tagged, StreamFits}
@@ -14,6 +14,9 @@ use Rattle.sap_interface.specs.Prelude.{NetStandsFor, NetStartsAs, coded_stream,
 use Rattle.sap_compile.specs.Agree.{CyclesAgree, CyclesLookAlike}
 use Rattle.sap_compile.specs.Compiles.{IsModuleFor}
 use Rattle.sap_compile.specs.Runs.{HasOneRun}
+use Rattle.sap_report.specs.Report.{level_line}
+use Rattle.sap_explain.specs.Explained.{IsExplained}
+use Rattle.sap_explain.specs.Explanation.{level_comments, design_comments, explanation}
 use Rattle.sap_files.proofs.Alike.{named_in}
 use Rattle.sap_files.proofs.Designs.{well_formed_in}
 use Rattle.sap_commands.specs.Commands.{IsModuleText}
@@ -50,5 +53,18 @@ module _ (l m : Levels) (same : AreSame l m) (d : DesignTree) (n : Net) where
         small = subst (λ (ns : List (List ℕ)). items n ≤ 8 * (1 + design_nodes d) * (1 + entity_count d + length ns)) same.names is.small;
       }
 
+-- the same lines explain it
+levels_in : (l m : Levels) → AreSame l m → (k : ℕ) (names : List (List ℕ)) → level_comments l k names ≡ level_comments m k names
+levels_in l m same k [] = refl
+levels_in l m same k (name ∷ names) =
+    ap (λ (o : Order). codes "// " ++ level_line name (code_of o k) ++ level_comments l (k + 1) names) same.order
+    ∙ ap (λ (text : List ℕ). codes "// " ++ level_line name (code_of (order_of m) k) ++ text) (levels_in l m same (k + 1) names)
+
+explanation_in : (l m : Levels) → AreSame l m → (d : DesignTree) → explanation l d ≡ explanation m d
+explanation_in l m same d =
+    ap (λ (text : List ℕ). text ++ design_comments [] d) (levels_in l m same 0 l.names)
+    ∙ ap (λ (names : List (List ℕ)). level_comments m 0 names ++ design_comments [] d) same.names
+
 pub text_in : (l m : Levels) → AreSame l m → (d : DesignTree) (text : List ℕ) → IsModuleText l d text → IsModuleText m d text
-text_in l m same d text (net, is) = (net, module_in l m same d net text is)
+text_in l m same d text (net, is, explained) =
+    (net, module_in l m same d net text is, subst (λ (lines : List ℕ). IsExplained lines text net) (explanation_in l m same d) explained)

@@ -7,11 +7,11 @@ use Rattle.sap_meaning.specs.Prelude.{StreamsAgree, Tagged}
 use Rattle.sap_tree.specs.Syntax.{DesignTree}
 use Rattle.sap_net.specs.Net.{Net}
 use Rattle.sap_compile.specs.Compiles.{IsNetlistFor}
-use Rattle.sap_files.specs.Prelude.{Ending, IsLatticeFile, stream_file, gives, Finds, Ends, EndsReading, Moment, Reads, ending}
+use Rattle.sap_files.specs.Prelude.{Ending, IsLatticeFile, stream_file, gives, Ends, EndsReading, Moment, Reads, ending}
+use Rattle.sap_commands.specs.Twin.{Finds, asks_streams}
 use Rattle.sap_files.specs.declared.failure.Failure.{Failure}
 use Rattle.sap_files.proofs.Ended.{chosen, gave, past, reading_ended}
 use Rattle.sap_files.proofs.Streams.{stream_in, stream_refused_in}
-use Rattle.sap_commands.specs.Commands.{asks_streams}
 use Rattle.sap_commands.proofs.Agreements.{agreement, verdict_ends}
 use Rattle.sap_commands.proofs.ModulesAlike.{module_in}
 

@@ -10,7 +10,8 @@ use Rattle.sap_files.specs.Prelude.{Ending, level_refused, refused, IsLatticeFil
 use Rattle.sap_files.proofs.Ended.{chosen, past, quiet_self, reading_ended, stopped_by}
 use Rattle.sap_files.proofs.Lattices.{whole_same}
 use Rattle.sap_files.proofs.Reading.{reading_in}
-use Rattle.sap_commands.specs.Commands.{asks, asks_streams}
+use Rattle.sap_commands.specs.Commands.{asks}
+use Rattle.sap_commands.specs.Twin.{asks_streams}
 use Rattle.sap_commands.proofs.CheckedDesigns.{HasDesign, checked_past}
 
 module _ (lattice design first second word : List ℕ) (a b : Moment) where

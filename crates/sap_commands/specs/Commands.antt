@@ -1,69 +1,114 @@
--- What each command asks.
+-- What each command asks: the files that it reads, each as one kind, and what it writes.
 use Rattle.std.specs.Prelude.{◌≡◌, ℕ, List, Option, Some, None}
 use Rattle.sap_desk.specs.Desk.{Told}
-use Rattle.sap_lattice.specs.Levels.{Levels, level_named, order_of}
-use Rattle.sap_meaning.specs.Cycle.{Tagged}
+use Rattle.sap_lattice.specs.Levels.{Levels}
 use Rattle.sap_tree.specs.Syntax.{DesignTree}
 use Rattle.sap_net.specs.Net.{Net}
-use Rattle.sap_stream.specs.declared.apart.Apart.{Apart}
+use Rattle.sap_show.specs.Canonical.{canonical_text}
 use Rattle.sap_sim.specs.Labelled.RunOf.{read_for as design_stimulus}
+use Rattle.sap_sim.specs.Numbers.{numbers_of}
+use Rattle.sap_sim.specs.Simulated.{read_for as module_stimulus}
 use Rattle.sap_compile.specs.Compiles.{IsModuleFor}
+use Rattle.sap_report.specs.Report.{report_text}
+use Rattle.sap_wave_rows.specs.Rows.{rows_of_wave}
+use Rattle.sap_wave_run.specs.Dumped.{IsDumpOn}
+use Rattle.sap_machine.specs.DesignText.{machine_text}
+use Rattle.sap_machine.specs.Text.{stimulus_text, users_text}
+use Rattle.sap_explain.specs.Explained.{IsExplained}
+use Rattle.sap_explain.specs.Explanation.{explanation}
 use Rattle.sap_gen.specs.Text.{generated_text}
 use Rattle.sap_words.specs.Words.{Words, compile, link, run, trace, fmt, sim, taint, wave, unwave, report, twin, gen, machine, asm, cpu, command_of}
-use Rattle.sap_files.specs.Ending.{Ending, no_command, level_refused}
-use Rattle.sap_files.specs.Kinds.{lattice_file, design_file, stream_file}
-use Rattle.sap_commands.specs.Twin.{IsAgreement}
-use Rattle.sap_files.specs.Compared.{IsVerdict, difference}
-use Rattle.sap_files.specs.StimulusTexts.{AreDesignRows, AreTraceLines}
-use Rattle.sap_files.specs.Uncompiled.{asks_asm, asks_canonical, asks_cpu, asks_machine, asks_simulated, asks_report, asks_taint, asks_unwave, asks_wave}
-use Rattle.sap_linking.specs.Asked.{asks_link}
-use Rattle.sap_files.specs.Asks.{Asks, file, with_the, gives, prints, writes, stops, Cause, IsOutput}
+use Rattle.sap_files.specs.Ending.{Ending, no_command}
+use Rattle.sap_files.specs.Kinds.{assembly_file, lattice_file, design_file, design_text_file, module_file, module_stream_file, wave_file}
+use Rattle.sap_files.specs.StimulusTexts.{AreDesignRows, AreModuleRows, AreTraceLines}
+use Rattle.sap_files.specs.Asks.{Asks, file, gives, prints, writes, stops, Cause, IsOutput}
+use Rattle.sap_commands.specs.Link.{asks_link}
+use Rattle.sap_commands.specs.Taint.{asks_taint}
+use Rattle.sap_commands.specs.Twin.{asks_twin}
 
--- The text is one of a module for the design.
+-- The text is one of a module for the design, and begins with the lines that explain it.
 abbrev pub IsModuleText : Levels → DesignTree → (text : List ℕ) → Type 0
-IsModuleText ls d text = (net : Net) × IsModuleFor ls d net text
+IsModuleText ls d text = (net : Net) × IsModuleFor ls d net text × IsExplained (explanation ls d) text net
 
--- What a command asks once its LEVEL is looked up: it is refused if that names no level, else it goes on with the
--- level.
-abbrev pub at_level : (word : List ℕ) → (ℕ → Asks) → Option ℕ → Asks
-at_level word rest None = stops (level_refused word)
-at_level word rest (Some l) = rest l
+-- What `compile` asks.
+abbrev pub asks_compile : (lattice design out : List ℕ) → Asks
+asks_compile lattice design out =
+    file lattice lattice_file (λ ls. file design (design_file ls) (λ d. writes out (IsModuleText ls d)))
 
--- What a `twin` asks of two streams, by where they first don't agree: it gives its line if they agree, else it is
--- refused.
-abbrev pub compared : Levels → DesignTree → (l : ℕ) → (word : List ℕ) → (one other : List (List Tagged))
-    → Option Apart → Asks
-compared ls d l word one other None = gives (IsAgreement ls d l one other word)
-compared ls d l word one other (Some apart) = stops (difference d apart)
+-- What `run` asks.
+abbrev pub asks_run : (lattice design stimulus : List ℕ) → Asks
+asks_run lattice design stimulus =
+    file lattice lattice_file (λ ls. file design (design_file ls) (λ d.
+    prints stimulus (AreDesignRows ls d) (λ bytes. (design_stimulus ls d bytes).fault)))
 
--- What a `twin` asks after its design: it reads both stimuli and compares them at the level.
-abbrev pub asks_streams : Levels → DesignTree → (first second word : List ℕ) → (l : ℕ) → Asks
-asks_streams ls d first second word l =
-    file first (stream_file 1 ls d) (λ one. file second (stream_file 2 ls d) (λ other.
-    with_the (Option Apart) (IsVerdict (order_of ls) l one other) (compared ls d l word one other)))
+-- What `trace` asks.
+abbrev pub asks_trace : (lattice design stimulus : List ℕ) → Asks
+asks_trace lattice design stimulus =
+    file lattice lattice_file (λ ls. file design (design_file ls) (λ d.
+    prints stimulus (AreTraceLines ls d) (λ bytes. (design_stimulus ls d bytes).fault)))
+
+-- What `sim` asks.
+abbrev pub asks_sim : (lattice verilog stimulus : List ℕ) → Asks
+asks_sim lattice verilog stimulus =
+    file lattice lattice_file (λ ls. file verilog module_file (λ net.
+    prints stimulus (AreModuleRows ls net) (λ bytes. (module_stimulus ls net bytes).fault)))
+
+-- What `wave` asks.
+abbrev pub asks_wave : (lattice verilog stimulus out : List ℕ) → Asks
+asks_wave lattice verilog stimulus out =
+    file lattice lattice_file (λ ls. file verilog module_file
+    (λ net. file stimulus (module_stream_file ls net) (λ stream.
+    writes out (IsDumpOn net (numbers_of ls net) stream))))
+
+-- What `unwave` asks.
+abbrev pub asks_unwave : (lattice dump : List ℕ) → Asks
+asks_unwave lattice dump =
+    file lattice lattice_file (λ ls. file dump wave_file (λ wave. gives (λ text. text ≡ rows_of_wave ls wave)))
+
+-- What `report` asks.
+abbrev pub asks_report : (lattice design : List ℕ) → Asks
+asks_report lattice design =
+    file lattice lattice_file (λ ls. file design (design_file ls) (λ d. gives (λ text. text ≡ report_text ls d)))
+
+-- What `fmt` asks.
+abbrev pub asks_fmt : (design : List ℕ) → Asks
+asks_fmt design = file design design_text_file (λ d. gives (λ text. text ≡ canonical_text d))
+
+-- What `gen` asks.
+abbrev pub asks_gen : (n : ℕ) → Asks
+asks_gen n = gives (λ text. text ≡ generated_text n)
+
+-- What `machine` asks.
+abbrev pub asks_machine : Asks
+asks_machine = gives (λ text. text ≡ machine_text)
+
+-- What `asm` and `cpu` ask: they read two assembly files, and give a text of the machine words of both.
+abbrev pub asks_programs : (text_of : (a b : List ℕ) → List ℕ) → (first second : List ℕ) → Asks
+asks_programs text_of first second =
+    file first (assembly_file 1) (λ a. file second (assembly_file 2) (λ b. gives (λ text. text ≡ text_of a b)))
+
+-- What `asm` asks.
+abbrev pub asks_asm : (first second : List ℕ) → (n : ℕ) → Asks
+asks_asm first second n = asks_programs (λ a b. stimulus_text a b n) first second
+
+-- What `cpu` asks.
+abbrev pub asks_cpu : (first second : List ℕ) → (n : ℕ) → Asks
+asks_cpu first second n = asks_programs (λ a b. users_text a b n) first second
 
 -- What each command asks.
 abbrev pub asks : Words → Asks
-asks (compile lattice design out) =
-    file lattice lattice_file (λ ls. file design (design_file ls) (λ d. writes out (IsModuleText ls d)))
+asks (compile lattice design out) = asks_compile lattice design out
 asks (link lattice system out) = asks_link lattice system out
-asks (run lattice design stimulus) =
-    file lattice lattice_file (λ ls. file design (design_file ls) (λ d.
-    prints stimulus (AreDesignRows ls d) (λ bytes. (design_stimulus ls d bytes).fault)))
-asks (trace lattice design stimulus) =
-    file lattice lattice_file (λ ls. file design (design_file ls) (λ d.
-    prints stimulus (AreTraceLines ls d) (λ bytes. (design_stimulus ls d bytes).fault)))
-asks (fmt design) = asks_canonical design
-asks (sim lattice verilog stimulus) = asks_simulated lattice verilog stimulus
+asks (run lattice design stimulus) = asks_run lattice design stimulus
+asks (trace lattice design stimulus) = asks_trace lattice design stimulus
+asks (fmt design) = asks_fmt design
+asks (sim lattice verilog stimulus) = asks_sim lattice verilog stimulus
 asks (taint lattice verilog out) = asks_taint lattice verilog out
 asks (wave lattice verilog stimulus out) = asks_wave lattice verilog stimulus out
 asks (unwave lattice dump) = asks_unwave lattice dump
 asks (report lattice design) = asks_report lattice design
-asks (twin lattice design first second level) =
-    file lattice lattice_file (λ ls. with_the (Option ℕ) (λ named. named ≡ level_named ls.names level)
-    (at_level level (λ l.
-    file design (design_file ls) (λ d. asks_streams ls d first second level l))))
-asks (gen n) = gives (λ text. text ≡ generated_text n)
+asks (twin lattice design first second level) = asks_twin lattice design first second level
+asks (gen n) = asks_gen n
 asks machine = asks_machine
 asks (asm first second n) = asks_asm first second n
 asks (cpu first second n) = asks_cpu first second n

@@ -1,3 +1,4 @@
+pub mod Link
+pub mod Taint
 pub mod Twin
 pub mod Commands
-pub mod Comparing

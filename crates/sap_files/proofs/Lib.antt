@@ -8,7 +8,6 @@ pub mod Alike
 pub mod Netlists
 pub mod NetsAlike
 pub mod TracesAlike
-pub mod ReportsAlike
 pub mod Lawful
 pub mod Ended
 pub mod Given
@@ -19,4 +18,4 @@ pub mod Streams
 pub mod Wholes
 pub mod Dumps
 pub mod Assemblies
-pub mod Taints
+pub mod Systems

@@ -1,14 +1,10 @@
 -- A level by its name, and streams of a design: what reading them comes to, and the names of inputs.
-use Rattle.sap_lemmas.proofs.Common.{◌≡◌, ◌≢◌, ◌<◌, ◌+◌, ◌-◌, ℕ, zero, suc, drop, true, false, List, [], length, get_or, refl, sym, ◌∙◌, ap, subst, inl, inr, arith, Option, Some, None, bytes_eq, slice_get, slice_index_or, cases_Bool, nat_tests, position_or_len, some_unique, bytes_eq_same, equal_of_bytes_eq}
-use Rattle.std.proofs.lemmas.List.Sums.{position_or_len_is}
-use Rattle.sap_lattice.specs.Levels.{Levels, level_named, order_by, order_of}
-use Rattle.sap_lattice.specs.Rules.{KeepsNames, repeated}
+use Rattle.sap_lemmas.proofs.Common.{◌≡◌, ◌<◌, ℕ, List, length, sym, ◌∙◌, ap, subst, inl, inr, Option, Some, None, some_unique}
+use Rattle.sap_lattice.specs.Levels.{Levels, order_by, order_of}
 use Rattle.sap_latfile.specs.LatticeFile.{IsLatticeOfFile}
 use Rattle.sap_latfile.specs.OneLattice.{AreSame}
 use Rattle.sap_meaning.specs.Prelude.{Tagged, StreamFits}
 use Rattle.sap_tree.specs.Syntax.{DesignTree}
-use Rattle.sap_names.specs.declared.entity.Entity.{Entity}
-use Rattle.sap_report.proofs.Lists.{drop-at}
 use Rattle.sap_stim.specs.Fits.{StreamFits as LinesFit}
 use Rattle.sap_stim.specs.declared.fault.StimFault.{StimFault}
 use Rattle.sap_stim.specs.declared.stimulus.Parsed.{Parsed}
@@ -20,38 +16,8 @@ use Rattle.sap_sim.specs.Simulated.{read_for as read_for_module}
 use Rattle.sap_net.specs.Net.{Net}
 use Rattle.sap_sim.proofs.labelled.Designs.{fit_stream}
 use Rattle.sap_interface.specs.Prelude.{named_of, world}
-use Rattle.sap_files.specs.Prelude.{Ending, stimulus_refused, IsLawful, stream_by, stream_file, module_stream_file, input_names, is_input, Refuses}
+use Rattle.sap_files.specs.Prelude.{Ending, stimulus_refused, IsLawful, stream_by, stream_file, module_stream_file, Refuses}
 use Rattle.sap_files.proofs.Alike.{read_in}
-
--- the level of a name
-
-module _ (names : List (List ℕ)) (word : List ℕ) where
-  differs : (k : ℕ) → (get_or names k [] ≡ word → ⊥) → bytes_eq (get_or names k []) word ≡ false
-  differs k other = elim (cases_Bool (bytes_eq (get_or names k []) word)) [ inl t ↦ absurd (other (equal_of_bytes_eq (get_or names k []) word t)) | inr f ↦ f ]
-
-  at_place : (x : ℕ) → x < length names → position_or_len (λ level. bytes_eq level word) names ≡ x → Some x ≡ level_named names word
-  at_place x low is = rw is (grind (arith, nat_tests))
-
-  nowhere : position_or_len (λ level. bytes_eq level word) names ≡ length names → None ≡ level_named names word
-  nowhere is = rw is (grind (arith, nat_tests))
-
-  found : (x : ℕ) → KeepsNames names → x < length names → get_or names x [] ≡ word → Some x ≡ level_named names word
-  found x keeps low is =
-      at_place x low
-      (position_or_len_is (λ level. bytes_eq level word) names x [] (omega arith)
-      (λ k before. differs k (λ same. keeps.named x (low, repeated k before (same ∙ sym is))))
-      (λ here. ap (λ (name : List ℕ). bytes_eq name word) is ∙ bytes_eq_same word))
-
-  missing : ((x : ℕ) → x < length names → get_or names x [] ≢ word) → None ≡ level_named names word
-  missing none =
-      nowhere
-      (position_or_len_is (λ level. bytes_eq level word) names (length names) [] (omega arith) (λ k low. differs k (none k low)) (λ low. absurd (omega arith)))
-
-  pub level_found : (x : ℕ) → KeepsNames names → (x < length names) × (slice_index_or names x [] ≡ word) → Some x ≡ level_named names word
-  level_found x keeps at = found x keeps at.0 at.1
-
-  pub level_missing : ((x : ℕ) → x < length names → slice_index_or names x [] ≢ word) → None ≡ level_named names word
-  level_missing none = missing none
 
 -- a stimulus file
 
@@ -102,20 +68,3 @@ module _ (lattice : List ℕ) (ls : Levels) (is : IsLatticeOfFile lattice ls) (d
     counts ls (design_fields d) one (lines_fit 1 bytes one stands),
     counts ls (design_fields d) other (lines_fit 2 more other also),
   )
-
--- the name of an input, by the entities that are left from one on
-
-module _ (es : List Entity) (i : ℕ) (e : Entity) (at : slice_get es i ≡ Some e) where
-  pub input_here : (left : ℕ) → is_input e.what ≡ true → left ≡ 0 → get_or (input_names (drop i es)) left [] ≡ e.name.name
-  input_here left is none = rw (none, drop-at es i e at, is) refl
-
-  later : (left : ℕ) → is_input e.what ≡ true → get_or (input_names (drop i es)) (suc left) [] ≡ get_or (input_names (drop (i + 1) es)) left []
-  later left is = rw (drop-at es i e at, is) refl
-
-  pub input_later : (left : ℕ) → is_input e.what ≡ true → (left ≡ 0 → ⊥) → get_or (input_names (drop i es)) left [] ≡ get_or (input_names (drop (i + 1) es)) (left - 1) []
-  input_later zero is some = absurd (some refl)
-  input_later (suc left) is some =
-      later left is ∙ ap (λ (k : ℕ). get_or (input_names (drop (i + 1) es)) k []) (let same : left ≡ suc left - 1 = omega arith in same)
-
-  pub input_not_here : (left : ℕ) → is_input e.what ≡ false → get_or (input_names (drop i es)) left [] ≡ get_or (input_names (drop (i + 1) es)) left []
-  input_not_here left isnt = rw (drop-at es i e at, isnt) refl

@@ -16,12 +16,14 @@ use Rattle.sap_vread.specs.ModuleFault.{IsModuleFault}
 use Rattle.sap_wave.specs.Dumps.{IsReading}
 use Rattle.sap_wave.specs.Read.{IsWaveFault}
 use Rattle.sap_wave.specs.Waves.{Wave}
+use Rattle.sap_system.specs.Listing.{Listing}
+use Rattle.sap_system.specs.SystemFile.{FirstFault as FirstSystemFault, IsSystemOfFile}
 use Rattle.sap_machine.specs.Assembly.{assembled}
 use Rattle.sap_files.specs.Contents.{IsLatticeFile, IsWellFormedText}
 use Rattle.sap_files.specs.DesignFaults.{IsDesignFault}
 use Rattle.sap_files.specs.StimulusTexts.{IsWholeStream}
 use Rattle.sap_files.specs.declared.fault.DesignFault.TheVariants as design_fault
-use Rattle.sap_files.specs.Ending.{Refusal, lattice_refused, design_refused, stimulus_refused, module_refused, wave_refused, asm_refused}
+use Rattle.sap_files.specs.Ending.{Refusal, lattice_refused, design_refused, part_refused, system_refused, stimulus_refused, module_refused, wave_refused, asm_refused}
 
 -- What a file is read as: the number of bytes behind which it is read no further, if any; when its bytes stand for a
 -- value; and when they are refused, and why.
@@ -118,4 +120,22 @@ assembly_file place = record {
   Value = List ℕ;
   Stands = λ text words. assembled text ≡ Ok words;
   Refused = refused_as (asm_refused place) (λ text fault. assembled text ≡ Err fault);
+}
+
+-- System files.
+abbrev pub system_file : Kind
+system_file = record {
+  most = None;
+  Value = Listing;
+  Stands = IsSystemOfFile;
+  Refused = refused_as system_refused FirstSystemFault;
+}
+
+-- The design file of the part of this name, which a refusal tells.
+abbrev pub part_file : Levels → (part : List ℕ) → Kind
+part_file ls part = record {
+  most = Some most_bytes;
+  Value = DesignTree;
+  Stands = IsWellFormedText ls;
+  Refused = refused_as (part_refused part) (IsDesignFault ls);
 }

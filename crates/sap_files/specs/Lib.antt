@@ -7,8 +7,6 @@ pub mod After
 pub mod Outside
 pub mod Steps
 pub mod Designs
-pub mod Compared
 pub mod StimulusTexts
 pub mod Tainting
-pub mod Uncompiled
 pub mod Prelude

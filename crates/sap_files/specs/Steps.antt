@@ -13,15 +13,12 @@ use Rattle.sap_check.specs.Checked.{levels_in, tree_in}
 use Rattle.sap_check.specs.declared.checked.Checked.{Checked}
 use Rattle.sap_vread.specs.declared.fault.ModFault.{ModFault}
 use Rattle.sap_vread.specs.declared.fault.ModFault.TheVariants as module_fault
-use Rattle.sap_net.specs.Net.{Net}
-use Rattle.sap_taint.specs.TagNames.{IsClash, HasRoomForTags}
-use Rattle.sap_taint_pass.specs.declared.fault.TaintFault.{TaintFault}
-use Rattle.sap_taint_pass.specs.declared.fault.TaintFault.TheVariants as taint_fault
+use Rattle.sap_system.specs.declared.fault.SysFault.{SysFault}
+use Rattle.sap_system.specs.declared.fault.SysFault.TheVariants as system_fault
 use Rattle.sap_wave.specs.declared.fault.WaveFault.{WaveFault}
 use Rattle.sap_wave.specs.declared.fault.WaveFault.TheVariants as wave_fault
 use Rattle.sap_files.specs.declared.fault.DesignFault.TheVariants as design_fault
 use Rattle.sap_files.specs.Ending.{Ending, Refusal as Reason, done, refused, failed, no_memory, lattice_refused, design_refused, part_refused, system_refused, wires_refused, stimulus_refused, module_refused, taint_refused, level_refused, lengths_apart, inputs_apart, wave_refused, asm_refused, IsFree}
-use Rattle.sap_files.specs.Tainting.{HasTaintOf, IsTaintedText}
 use Rattle.sap_files.specs.Contents.{IsWellFormedText, table_by}
 use Rattle.sap_files.specs.Kinds.{Kind, design_file}
 use Rattle.sap_stim.specs.declared.field.Field.{Field}
@@ -52,7 +49,7 @@ reason (Input cycle name) = inputs_apart cycle name
 reason (Wave fault) = wave_refused fault
 reason (Assembly place fault) = asm_refused place fault
 
--- why the bytes of a lattice file, of a design file, of a module file and of a dump end a command
+-- why the bytes of a file of each kind end a command
 
 -- How a command fails whose lattice isn't read.
 abbrev pub lattice_failure : LatFileFault → Failure
@@ -69,10 +66,10 @@ abbrev pub module_failure : ModFault → Failure
 module_failure module_fault.Memory = Memory
 module_failure fault = Refused (Module fault)
 
--- How a command fails whose module has no room for tags.
-abbrev pub taint_failure : TaintFault → Failure
-taint_failure taint_fault.Memory = Memory
-taint_failure fault = Refused (Taint fault)
+-- How a command fails whose system isn't read.
+abbrev pub system_failure : SysFault → Failure
+system_failure system_fault.Memory = Memory
+system_failure fault = Refused (System fault)
 
 -- How a command fails whose dump isn't read.
 abbrev pub wave_failure : WaveFault → Failure
@@ -205,18 +202,6 @@ Gives k value bytes (Err e) = Refuses k bytes (ending e)
 -- The levels of a lattice with the table that a lattice file has.
 abbrev pub whole : Levels → Levels
 whole ls = record { names = ls.names; table = table_by (length ls.names) (order_of ls).le }
-
--- What a module gives to which tags are added: the netlist with tags, or why there is none.
-abbrev pub Tags : Levels → Net → Result Net Failure → Type 0
-Tags ls net (Ok tagged) = HasRoomForTags net × HasTaintOf (order_of ls) net tagged
-Tags ls net (Err e) = (ending e ≡ no_memory)
-    ⊎ ((x : List ℕ) × IsClash net x × (ending e ≡ refused (taint_refused (taint_fault.Clash x))))
-
--- What a module gives to which tags are added: the text of the module with tags, or why there is none.
-abbrev pub Taints : Levels → Net → Result (List ℕ) Failure → Type 0
-Taints ls net (Ok text) = HasRoomForTags net × IsTaintedText ls net text
-Taints ls net (Err e) = (ending e ≡ no_memory)
-    ⊎ ((x : List ℕ) × IsClash net x × (ending e ≡ refused (taint_refused (taint_fault.Clash x))))
 
 -- A file read as one of a kind
 

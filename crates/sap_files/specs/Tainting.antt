@@ -1,5 +1,5 @@
--- What a module becomes to which tags are added, or why it doesn't.
-use Rattle.std.specs.Prelude.{ℕ, List, Option, Some, None}
+-- What a module becomes to which tags are added.
+use Rattle.std.specs.Prelude.{ℕ, List}
 use Rattle.sap_lattice.specs.Order.{Order}
 use Rattle.sap_lattice.specs.Codes.{width_of}
 use Rattle.sap_lattice.specs.Levels.{Levels, order_of}
@@ -7,10 +7,6 @@ use Rattle.sap_net.specs.Net.{Net}
 use Rattle.sap_vtext.specs.Modules.{IsModule}
 use Rattle.sap_taint.specs.Carries.{TakesTags, OneTaggedRun, ShowsTaint, TagsStayCodes, RunsWithTagsAgree}
 use Rattle.sap_taint.specs.TaggedForm.{HasTaggedForm}
-use Rattle.sap_taint.specs.TagNames.{IsClash, HasRoomForTags}
-use Rattle.sap_taint_pass.specs.declared.fault.TaintFault.TheVariants.{Clash}
-use Rattle.sap_files.specs.Ending.{taint_refused}
-use Rattle.sap_files.specs.Asks.{Asks, writes, stops}
 
 -- `tagged` is the netlist `net` with tags. It has the names and ports of `net`, each followed by its tag, which is as
 -- wide as codes of levels. It takes what `net` takes, with tags, and has exactly one run on it. There the names have
@@ -29,13 +25,3 @@ pub record IsTaintedText (ls : Levels) (net : Net) (text : List ℕ) : Type 0 wh
   pub tagged : Net
   pub is_module : IsModule text tagged
   pub taint : HasTaintOf (order_of ls) net tagged
-
--- The first declared name whose tag has no name of its own, where there is one.
-abbrev pub FirstClash : Net → Option (List ℕ) → Type 0
-FirstClash net None = HasRoomForTags net
-FirstClash net (Some x) = IsClash net x
-
--- What is written of a module, by its first clash.
-abbrev pub tagged_or_refused : Levels → Net → (out : List ℕ) → Option (List ℕ) → Asks
-tagged_or_refused ls net out None = writes out (IsTaintedText ls net)
-tagged_or_refused ls net out (Some x) = stops (taint_refused (Clash x))

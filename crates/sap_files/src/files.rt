@@ -5,15 +5,14 @@ ghost use Rattle.sap_check.specs.Checked.{levels_in, tree_in};
 ghost use Rattle.sap_stim.specs.Line.{IsSized};
 ghost use Rattle.sap_stim.specs.Stimulus.{stimulus_of};
 ghost use Rattle.sap_tree.specs.Designs.{design_of as tree_of};
-ghost use Rattle.sap_files.specs.Kinds.{assembly_file, design_text_file, lattice_file, module_file, stream_by, stream_file, wave_file};
+ghost use Rattle.sap_files.specs.Kinds.{assembly_file, design_text_file, lattice_file, module_file, stream_by, stream_file, system_file, wave_file};
 ghost use Rattle.sap_files.specs.Designs.{GetsDesign};
 ghost use Rattle.sap_files.specs.Steps.{Gets, GetsChecked, seen, whole};
 
-use crate::comparing::stream_of;
 use crate::failure::{DesignFailure, Failure};
 use crate::inputs::{
     checked_from, design_bytes, design_failure, lattice_from, lines_from, module_from, read,
-    read_design, text_from, wave_from, words_from,
+    read_design, stream_of, system_from, text_from, wave_from, words_from,
 };
 use sap_check::Checked;
 use sap_cpu::words::Words;
@@ -22,6 +21,7 @@ use sap_lattice::Lattice;
 use sap_net::netlist::Netlist;
 use sap_stim::Fields;
 use sap_stream::Stream;
+use sap_system::SystemFile;
 use sap_tree::design::Design;
 use sap_wave::Wave;
 use std::alloc::Global;
@@ -129,6 +129,18 @@ pub fn wave_of_file<'a, D: Desk>(
 {
     let text = read(alloc, desk, name)?;
     wave_from(alloc, &text)
+}
+
+/// Reads a system file.
+pub fn system_of_file<'a, D: Desk>(
+    alloc: Global,
+    desk: &mut D,
+    name: &'a str,
+) -> Result<SystemFile, Failure<'a>>
+    ensures { Gets name.now system_file (λ s. s) result (seen D.told D.faults D.lost D.sure desk.old) (seen D.told D.faults D.lost D.sure desk.new) }
+{
+    let bytes = read(alloc, desk, name)?;
+    system_from(alloc, &bytes)
 }
 
 /// Reads assembly, the first file or the second of the words of a command.

@@ -1,12 +1,13 @@
 //! What a command reads: the bytes of files, and what they stand for.
 
 ghost use Rattle.std.specs.Prelude.{◌≡◌, ◌<◌, ◌^◌, All, IfOk, length};
+ghost use Rattle.sap_check.specs.Checked.{levels_in, tree_in};
 ghost use Rattle.sap_stim.specs.Line.{IsSized};
 ghost use Rattle.sap_stim.specs.Stimulus.{stimulus_of};
 ghost use Rattle.sap_tree.specs.Designs.{design_of as tree_of};
-ghost use Rattle.sap_files.specs.Kinds.{lattice_file, assembly_file, design_text_file, module_file, stream_by, wave_file};
+ghost use Rattle.sap_files.specs.Kinds.{assembly_file, design_text_file, lattice_file, module_file, stream_by, stream_file, system_file, wave_file};
 ghost use Rattle.sap_files.specs.Designs.{IsChecked, ReadsDesign, design_ending};
-ghost use Rattle.sap_files.specs.Steps.{Gives, Read, ReadDesign, ending, lattice_failure, module_failure, read_failure, seen, wave_failure, whole};
+ghost use Rattle.sap_files.specs.Steps.{Gives, Read, ReadDesign, ending, lattice_failure, module_failure, read_failure, seen, system_failure, wave_failure, whole};
 
 use crate::failure::{DesignFailure, Failure};
 use crate::fault::DesignFault;
@@ -21,8 +22,10 @@ use sap_lattice::Lattice;
 use sap_lex::fault::ReadFault;
 use sap_net::netlist::Netlist;
 use sap_parse::parse;
+use sap_sim::read_stimulus;
 use sap_stim::{Fields, parse_stream};
 use sap_stream::Stream;
+use sap_system::{SysFault, SystemFile, read_system};
 use sap_tree::design::Design;
 use sap_vread::fault::ModFault;
 use sap_vread::read as read_module;
@@ -174,6 +177,23 @@ pub fn lines_from<'a>(
     }
 }
 
+/// The stream of a stimulus file's bytes, which is the first or the second of the words.
+pub fn stream_of<'a>(
+    alloc: Global,
+    checked: &Checked,
+    place: u64,
+    bytes: &Bytes,
+) -> Result<Stream, Failure<'a>>
+    requires { length bytes.now < 2 ^ 32 }
+    ensures { Gives (stream_file place (levels_in checked.now) (tree_in checked.now)) (λ stream. stream) bytes.now result }
+{
+    let parsed = read_stimulus(alloc, checked, bytes.as_slice())?;
+    match parsed.fault {
+        None => Ok(parsed.stream),
+        Some(fault) => Err(Failure::Refused(Refusal::Stimulus(place, fault))),
+    }
+}
+
 fn wave_failure<'a>(fault: WaveFault) -> Failure<'a>
     ensures { result ≡ wave_failure fault }
 {
@@ -190,6 +210,25 @@ pub fn wave_from<'a>(alloc: Global, bytes: &Bytes) -> Result<Wave, Failure<'a>>
     match read_wave(alloc, bytes.as_slice()) {
         Ok(wave) => Ok(wave),
         Err(fault) => Err(wave_failure(fault)),
+    }
+}
+
+fn system_failure<'a>(fault: SysFault) -> Failure<'a>
+    ensures { result ≡ system_failure fault }
+{
+    match fault {
+        SysFault::Memory => Failure::Memory,
+        fault => Failure::Refused(Refusal::System(fault)),
+    }
+}
+
+/// The system of a system file's bytes.
+pub fn system_from<'a>(alloc: Global, bytes: &Bytes) -> Result<SystemFile, Failure<'a>>
+    ensures { Gives system_file (λ s. s) bytes.now result }
+{
+    match read_system(alloc, bytes.as_slice()) {
+        Ok(system) => Ok(system),
+        Err(fault) => Err(system_failure(fault)),
     }
 }
 

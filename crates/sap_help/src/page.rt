@@ -1,7 +1,7 @@
 //! The text of `--help`.
 
 use clap::{Arg, ArgAction, Command};
-use sap_words::COMMANDS;
+use sap_words::{COMMANDS, DOES};
 use std::alloc::{AllocError, Global};
 
 pub(crate) const VERSION: &str = "sapper 0.1.0\n";
@@ -10,25 +10,6 @@ const ABOUT: &str =
     "Compiles Sapper designs to modules of a small subset of Verilog, and simulates them.";
 
 const USAGE: &str = "sapper COMMAND OPERANDS";
-
-// What each command does, in the order of the table of commands.
-static DOES: [&str; 15] = [
-    "writes the module of a design to the file OUT",
-    "writes one module of several designs that are clocked together to the file OUT",
-    "runs a design on a stimulus, and writes a row a cycle",
-    "runs a design on a stimulus, and writes a line for each refused command",
-    "clocks a module of the subset, and writes a row a cycle",
-    "writes a module of the subset with a tag for each name to the file OUT",
-    "clocks a module of the subset, and writes its value change dump to the file OUT",
-    "writes the rows of a value change dump",
-    "writes codes of levels, what hangs on which commands, and check sites",
-    "says whether two stimuli of a design agree at a level",
-    "writes the canonical text of a design",
-    "runs a generated design, N from 1 to 1000, and writes its counts and its last row",
-    "writes the design of a machine whose time two users share",
-    "writes the stimulus for that machine of two programs and N slices, N from 1 to 1000",
-    "writes what the instruction table makes of two programs in N slices",
-];
 
 const STATUSES: &str = "Statuses:
   0  done

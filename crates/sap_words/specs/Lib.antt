@@ -1,6 +1,5 @@
 pub mod Words
 pub mod Table
-pub mod Called
 pub mod Parser
 pub mod Headings
 pub mod Fits

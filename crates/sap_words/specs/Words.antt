@@ -1,9 +1,11 @@
--- The table of commands, and the command that words are.
+-- Commands, their table, and the command that words are.
 use Rattle.std.specs.Prelude.{◌≡◌, ℕ, Bool, true, false, not, ◌&&◌, List, [], ◌∷◌, length, nat_le, bytes_eq, eqb, codes, find, Option, Some, None, option_and_then, if◌then◌else◌}
 use Rattle.std.specs.Str.{byte}
 use Rattle.std.specs.Char.{is_ascii_digit}
 use Rattle.std.specs.List.{list_all}
 use Rattle.std.specs.Str.Parse.{digits_value}
+use Rattle.sap_words.specs.declared.table.Command.{Command}
+use Rattle.sap_words.specs.declared.table.Command.TheVariants.{Compile, Link, Run, Trace, Fmt, Sim, Taint, Wave, Unwave, Report, Twin, Gen, Machine, Asm, Cpu}
 
 -- Each operand is the name of a file, but LEVEL, which is that of a level, and N, which is a number.
 pub data Words : Type 0 where
@@ -22,6 +24,24 @@ pub data Words : Type 0 where
   machine : Words
   asm : (first second : List ℕ) (n : ℕ) → Words
   cpu : (first second : List ℕ) (n : ℕ) → Words
+
+-- The command with its operands, as the definitions have it.
+abbrev pub words_of : Command → Words
+words_of (Compile lattice design out) = compile lattice.now design.now out.now
+words_of (Link lattice system out) = link lattice.now system.now out.now
+words_of (Run lattice design stimulus) = run lattice.now design.now stimulus.now
+words_of (Trace lattice design stimulus) = trace lattice.now design.now stimulus.now
+words_of (Fmt design) = fmt design.now
+words_of (Sim lattice verilog stimulus) = sim lattice.now verilog.now stimulus.now
+words_of (Taint lattice verilog out) = taint lattice.now verilog.now out.now
+words_of (Wave lattice verilog stimulus out) = wave lattice.now verilog.now stimulus.now out.now
+words_of (Unwave lattice dump) = unwave lattice.now dump.now
+words_of (Report lattice design) = report lattice.now design.now
+words_of (Twin lattice design first second level) = twin lattice.now design.now first.now second.now level.now
+words_of (Gen number) = gen number.value
+words_of Machine = machine
+words_of (Asm first second number) = asm first.now second.now number.value
+words_of (Cpu first second number) = cpu first.now second.now number.value
 
 -- The command is `twin`.
 abbrev pub IsTwin : Option Words → Type 0

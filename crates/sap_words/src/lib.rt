@@ -1,13 +1,13 @@
 //! The words of a command line as a command.
 #![tactic(auto)]
 
-pub mod command;
 mod fits;
 mod number;
 mod parser;
 mod read;
+mod run_number;
 mod table;
 
-pub use command::{Command, RunNumber};
 pub use read::command_of;
-pub use table::COMMANDS;
+pub use run_number::RunNumber;
+pub use table::{COMMANDS, Command, DOES};

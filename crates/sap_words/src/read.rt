@@ -2,15 +2,13 @@
 
 ghost use Rattle.std.specs.Prelude.{◌≡◌, IfErr, IfOk, List, Some, ℕ, map, option_map, string_bytes};
 ghost use Rattle.clap.specs.Words.{Row, first_of, first_value, found_of, subcommand_rows_of};
-ghost use Rattle.sap_words.specs.Called.{words_of};
 ghost use Rattle.sap_words.specs.Found.{found, value_at};
 ghost use Rattle.sap_words.specs.Table.{IsCommand, ReadsTable};
-ghost use Rattle.sap_words.specs.Words.{Words, command_of as words_for, row_named};
+ghost use Rattle.sap_words.specs.Words.{Words, command_of as words_for, row_named, words_of};
 
-use crate::command::Command;
 use crate::fits::is_command;
 use crate::parser::parse;
-use crate::table::{made, operands_of};
+use crate::table::{Command, made, operands_of};
 use clap::ArgMatches;
 use std::alloc::{AllocError, Global};
 

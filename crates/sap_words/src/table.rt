@@ -1,13 +1,12 @@
-//! The table of commands.
+//! The commands and their table.
 
 ghost use Rattle.std.specs.Prelude.{◌≡◌, bytes_eq, find, map, option_map};
-ghost use Rattle.sap_words.specs.Called.{words_of};
 ghost use Rattle.sap_words.specs.Found.{made_of_five};
 ghost use Rattle.sap_words.specs.Headings.{heading, texts, written};
-ghost use Rattle.sap_words.specs.Words.{commands, row_named};
+ghost use Rattle.sap_words.specs.Words.{commands, row_named, words_of};
 
-use crate::command::Command;
 use crate::number::number_of;
+use crate::run_number::RunNumber;
 
 /// Each command with the names of its operands.
 pub static COMMANDS: [(&str, &[&str]); 15] = [
@@ -27,6 +26,98 @@ pub static COMMANDS: [(&str, &[&str]); 15] = [
     ("asm", &["A", "B", "N"]),
     ("cpu", &["A", "B", "N"]),
 ];
+
+/// What each command does, in the order of the table.
+pub static DOES: [&str; 15] = [
+    "writes the module of a design to the file OUT",
+    "writes one module of several designs that are clocked together to the file OUT",
+    "runs a design on a stimulus, and writes a row a cycle",
+    "runs a design on a stimulus, and writes a line for each refused command",
+    "clocks a module of the subset, and writes a row a cycle",
+    "writes a module of the subset with a tag for each name to the file OUT",
+    "clocks a module of the subset, and writes its value change dump to the file OUT",
+    "writes the rows of a value change dump",
+    "writes codes of levels, what hangs on which commands, and check sites",
+    "says whether two stimuli of a design agree at a level",
+    "writes the canonical text of a design",
+    "runs a generated design, N from 1 to 1000, and writes its counts and its last row",
+    "writes the design of a machine whose time two users share",
+    "writes the stimulus for that machine of two programs and N slices, N from 1 to 1000",
+    "writes what the instruction table makes of two programs in N slices",
+];
+
+/// A command with its operands: names of files and of a level, and a number.
+#[derive(Clone, Copy, Debug)]
+pub enum Command<'a> {
+    Compile {
+        lattice: &'a str,
+        design: &'a str,
+        out: &'a str,
+    },
+    Link {
+        lattice: &'a str,
+        system: &'a str,
+        out: &'a str,
+    },
+    Run {
+        lattice: &'a str,
+        design: &'a str,
+        stimulus: &'a str,
+    },
+    Trace {
+        lattice: &'a str,
+        design: &'a str,
+        stimulus: &'a str,
+    },
+    Fmt {
+        design: &'a str,
+    },
+    Sim {
+        lattice: &'a str,
+        verilog: &'a str,
+        stimulus: &'a str,
+    },
+    Taint {
+        lattice: &'a str,
+        verilog: &'a str,
+        out: &'a str,
+    },
+    Wave {
+        lattice: &'a str,
+        verilog: &'a str,
+        stimulus: &'a str,
+        out: &'a str,
+    },
+    Unwave {
+        lattice: &'a str,
+        wave: &'a str,
+    },
+    Report {
+        lattice: &'a str,
+        design: &'a str,
+    },
+    Twin {
+        lattice: &'a str,
+        design: &'a str,
+        first: &'a str,
+        second: &'a str,
+        level: &'a str,
+    },
+    Gen {
+        number: RunNumber,
+    },
+    Machine,
+    Asm {
+        first: &'a str,
+        second: &'a str,
+        number: RunNumber,
+    },
+    Cpu {
+        first: &'a str,
+        second: &'a str,
+        number: RunNumber,
+    },
+}
 
 /// The command that the first of the values make by the row of this name, as many as it has operands.
 pub(crate) fn made<'a>(

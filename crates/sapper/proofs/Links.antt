@@ -18,9 +18,9 @@ use Rattle.sap_words.specs.Words.{Words, link}
 use Rattle.sap_files.specs.Prelude.{Ending, Refusal, done, refused, wires_refused, status_of, line_of, Has, IsLatticeFile, IsWellFormedText, lattice_file, Asks, file, Cause, Files, Leaves, Written}
 use Rattle.sap_files.proofs.Lattices.{lattice_lawful}
 use Rattle.sap_files.proofs.Modules.{one_module}
-use Rattle.sap_linking.specs.Kinds.{part_file, system_file}
-use Rattle.sap_linking.specs.Asked.{IsLinkedText, asks_parts, asks_wired}
-use Rattle.sap_linking.proofs.KindLaws.{part_lawful, system_lawful}
+use Rattle.sap_files.specs.Kinds.{part_file, system_file}
+use Rattle.sap_commands.specs.Link.{IsLinkedText, asks_parts, asks_wired}
+use Rattle.sap_files.proofs.Systems.{part_lawful, system_lawful}
 use Rattle.sap_commands.specs.Commands.{asks, asks_for, asks_if}
 use Rattle.sap_commands.proofs.CommandLaws.{one_cause_lem}
 use Rattle.sapper.specs.Answers.{Answers}

@@ -19,8 +19,8 @@ use Rattle.sap_cpu.specs.Ends.{EndsAsPrinted}
 use Rattle.sap_cpu.proofs.Canonical.{machine_read, read_is_machine}
 use Rattle.sap_cpu.proofs.Ends.{runs_end_as_printed}
 use Rattle.sap_words.specs.Words.{Words, command_of, run, machine, asm, cpu}
-use Rattle.sap_files.specs.Prelude.{Ending, done, refused, asm_refused, line, status_of, line_of, end_of, Cause, Has, IsWellFormedText, Output, Shows, asks_programs, lattice_file}
-use Rattle.sap_commands.specs.Commands.{asks, asks_for, asks_if}
+use Rattle.sap_files.specs.Prelude.{Ending, done, refused, asm_refused, line, status_of, line_of, end_of, Cause, Has, IsWellFormedText, Output, Shows, lattice_file}
+use Rattle.sap_commands.specs.Commands.{asks_programs, asks, asks_for, asks_if}
 use Rattle.sap_commands.proofs.CommandLaws.{one_cause_lem}
 use Rattle.sap_files.proofs.Lattices.{lattice_lawful}
 use Rattle.sap_files.proofs.Lawful.{one_value}

@@ -9,7 +9,8 @@ use Rattle.sap_vtext.specs.Modules.{IsModule}
 use Rattle.sap_taint.specs.TagNames.{IsClash, HasRoomForTags}
 use Rattle.sap_taint_pass.specs.declared.fault.TaintFault.TheVariants.{Clash}
 use Rattle.sap_words.specs.Words.{Words, taint}
-use Rattle.sap_files.specs.Prelude.{Ending, Refusal, done, refused, taint_refused, status_of, line_of, Has, IsLatticeFile, lattice_file, module_file, Asks, file, with_the, Cause, Files, Leaves, Written, FirstClash, IsTaintedText, tagged_or_refused}
+use Rattle.sap_files.specs.Prelude.{Ending, Refusal, done, refused, taint_refused, status_of, line_of, Has, IsLatticeFile, lattice_file, module_file, Asks, file, with_the, Cause, Files, Leaves, Written, IsTaintedText}
+use Rattle.sap_commands.specs.Taint.{FirstClash, tagged_or_refused}
 use Rattle.sap_files.proofs.Lattices.{lattice_lawful}
 use Rattle.sap_files.proofs.Modules.{module_lawful, one_module}
 use Rattle.sap_taint.proofs.Clashes.{no_clash_with_room}

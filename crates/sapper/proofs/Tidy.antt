@@ -16,9 +16,9 @@ use Rattle.sap_files.specs.Prelude.{Has, IsLatticeFile, IsLawful, IsWellFormedTe
 use Rattle.sap_files.proofs.Designs.{design_lawful}
 use Rattle.sap_files.proofs.Lattices.{lattice_lawful}
 use Rattle.sap_files.proofs.Lawful.{one_value}
-use Rattle.sap_linking.specs.Asked.{IsLinkedText, asks_parts, asks_wired}
-use Rattle.sap_linking.specs.Kinds.{part_file, system_file}
-use Rattle.sap_linking.proofs.KindLaws.{part_lawful, system_lawful}
+use Rattle.sap_commands.specs.Link.{IsLinkedText, asks_parts, asks_wired}
+use Rattle.sap_files.specs.Kinds.{part_file, system_file}
+use Rattle.sap_files.proofs.Systems.{part_lawful, system_lawful}
 use Rattle.sap_commands.specs.Commands.{IsModuleText, asks, asks_for, asks_if}
 use Rattle.sapper.specs.Answers.{Answers}
 use Rattle.sapper.specs.Links.{AreForLink, HasDesign}

@@ -1,5 +1,5 @@
 use Rattle.sap_lemmas.proofs.Common.{rules, map, string_bytes, option_map}
-use Rattle.sap_words.specs.Called.{words_of}
+use Rattle.sap_words.specs.Words.{words_of}
 use Rattle.sap_words.proofs.Commands.{is_one, read}
 use Rattle.sap_words.proofs.Tables.{tabled}
 use Rattle.sap_words.proofs.read.command_of.Goals as goal

@@ -1,6 +1,5 @@
 use Rattle.sap_lemmas.proofs.Common.{◌≡◌, ap, sym, rules, Some, is_some, map, string_bytes}
-use Rattle.sap_words.specs.Called.{words_of}
-use Rattle.sap_words.specs.Words.{command_of as words_for}
+use Rattle.sap_words.specs.Words.{words_of, command_of as words_for}
 use Rattle.sap_commands.specs.Commands.{asks_for}
 use Rattle.sap_files.specs.Steps.{ending_of}
 use Rattle.sap_files.proofs.Ended.{quiet_self, starved}

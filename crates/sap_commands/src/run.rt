@@ -1,0 +1,28 @@
+//! The command `run`.
+
+ghost use Rattle.sap_commands.specs.Commands.{asks_run};
+ghost use Rattle.sap_files.specs.Steps.{Ends, ending_of, seen};
+
+use sap_compile::design_netlist;
+use sap_desk::Desk;
+use sap_files::failure::Failure;
+use sap_files::{checked_of_file, lattice_of_file, print_rows};
+use sap_sim::rows_of_run;
+use std::alloc::Global;
+
+/// Prints the rows of a design file's run on a stimulus file, over a lattice file.
+pub fn run<'a, D: Desk>(
+    alloc: Global,
+    desk: &mut D,
+    lattice: &'a str,
+    design: &'a str,
+    stimulus: &'a str,
+) -> Result<(), Failure<'a>>
+    ensures { Ends (asks_run lattice.now design.now stimulus.now) (ending_of result) (seen D.told D.faults D.lost D.sure desk.old) (seen D.told D.faults D.lost D.sure desk.new) }
+{
+    let levels = lattice_of_file(alloc, desk, lattice)?;
+    let checked = checked_of_file(alloc, desk, &levels, design)?;
+    let netlist = design_netlist(alloc, &checked)?;
+    rows_of_run(&levels, checked.design(), &netlist);
+    print_rows(alloc, desk, &levels, netlist, stimulus)
+}

@@ -1,0 +1,10 @@
+pub mod Moved
+pub mod MovedFaults
+pub mod MovedGrammar
+pub mod MovedNet
+pub mod Commented
+pub mod NamesIn
+pub mod LevelLines
+pub mod GroupLines
+pub mod SiteLines
+pub mod CommentLines

@@ -1,0 +1,3 @@
+pub mod Comments
+pub mod Explanation
+pub mod Explained

@@ -1,7 +1,0 @@
-use Rattle.std.proofs.Common.{◌≡◌, ◌++◌, drop, map}
-use Rattle.sap_linker.specs.Given.{design_with_net}
-use Rattle.sap_linking.specs.Parts.{loaded_net}
-use Rattle.sap_linking.proofs.linking.linked_parts.Given as goal
-
-abbrev pub invariant-loop-part : goal.invariant-loop-part
-invariant-loop-part l = map design_with_net l.parts.items ++ map loaded_net (drop l.part-index l.loaded) ≡ map loaded_net l.loaded

@@ -1,6 +1,0 @@
-use Rattle.sap_linking.proofs.KindLaws.{system_unread}
-use Rattle.sap_linking.proofs.reading.system_from.Goals as goal
-
-pub returns-in-Err : goal.returns-in-Err
-returns-in-Err c =
-    rw c.as_slice.ensures at (system_unread c.as_slice.result.now c.in-Err.fault c.system_failure.result c.system_failure.ensures c.in-Err.ensures.refused)
