@@ -86,7 +86,7 @@ module _ (lattice design out : List ℕ) (t n : Told) (ls : Levels) (d : DesignT
 
   explained : Written (asks (compile lattice design out)) t n.files
       → (text : List ℕ) × (n.files out ≡ Some text) × ((net : Net) × IsExplained (explanation ls d) text net)
-  explained more = let (text, left, module_for) = compiled more in (text, left, (module_for.0, module_for.1.1))
+  explained more = let (text, left, module_for) = compiled more in (text, left, (module_for.0, module_for.2))
 
 module _ (lattice system out : List ℕ) (answer : ℕ) (t n : Told) (ls : Levels) (s : Listing) (designs : List NamedDesign) (are : AreForLink lattice system t ls s designs) where
   abbrev Made : Type 0
