@@ -270,7 +270,7 @@ initial begin #1 clk = 1; #1 clk = 0; a = 5; ta = 0; rst = 1; #1 clk = 1; #1 $di
         self.assertEqual(told, (5, [], ["wrap: more.v isn't the module of this design: it has 2 ports more"]))
         self.assertEqual(self.script("wrap", lattice, design, "none.v", "w")[0], 6)
         status, _, errors = self.script("wrap", lattice, design, "./top.v", "top")
-        self.assertEqual((status, self.held("top.v").split("\n")[0]), (2, "// written by sapper"))
+        self.assertEqual((status, self.held("top.v").split("\n")[0]), (2, "// level low 0"))
         self.assertIn("top.v is a file that is read", errors[-1])
 
     def test_no_file_that_is_read(self):

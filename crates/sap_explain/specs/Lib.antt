@@ -1,3 +1,4 @@
 pub mod Comments
 pub mod Explanation
 pub mod Explained
+pub mod Examples

@@ -1,6 +1,7 @@
 //! The comment lines with which a module explains itself: its levels, its groups of states and its check sites.
 #![tactic(auto)]
 
+pub mod examples;
 mod explain;
 mod group;
 pub mod laws;

@@ -17,7 +17,7 @@ use Rattle.sap_files.proofs.Modules.{one_module}
 
 -- a text of a module for the design means it
 means : (ls : Levels) (d : DesignTree) (text : List ℕ) → IsModuleText ls d text → MeansDesign ls d text
-means ls d text (net, is) = record {
+means ls d text (net, is, explained) = record {
   net = net;
   is_module = is.is_module;
   no_other = λ other other_is. one_module text other net other_is is.is_module;

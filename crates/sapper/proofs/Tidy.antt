@@ -5,6 +5,7 @@ use Rattle.sap_desk.specs.Whole.{Between}
 use Rattle.sap_desk.proofs.Steps.{at_name-same}
 use Rattle.sap_lattice.specs.Levels.{Levels}
 use Rattle.sap_tree.specs.Syntax.{DesignTree}
+use Rattle.sap_net.specs.Net.{Net}
 use Rattle.sap_trim.specs.Names.{port_names}
 use Rattle.sap_size.specs.Items.{most_items}
 use Rattle.sap_system.specs.Listing.{Listing}
@@ -20,14 +21,17 @@ use Rattle.sap_commands.specs.Link.{IsLinkedText, asks_parts, asks_wired}
 use Rattle.sap_files.specs.Kinds.{part_file, system_file}
 use Rattle.sap_files.proofs.Systems.{part_lawful, system_lawful}
 use Rattle.sap_commands.specs.Commands.{IsModuleText, asks, asks_for, asks_if}
+use Rattle.sap_explain.specs.Explained.{IsExplained}
+use Rattle.sap_explain.specs.Explanation.{explanation}
 use Rattle.sapper.specs.Answers.{Answers}
+use Rattle.sapper.specs.Explains.{Explains}
 use Rattle.sapper.specs.Links.{AreForLink, HasDesign}
 use Rattle.sapper.specs.Tidy.{IsWellMade, IsWellMadeSystem, WritesWellMade}
 use Rattle.sapper.proofs.Headline.{done_alone}
 use Rattle.sapper.proofs.Links.{as_part, behind_part, no_fault, renamed}
 
 of_design : (ls : Levels) (d : DesignTree) (text : List ℕ) → IsModuleText ls d text → IsWellMade port_names (most_items ls d) text
-of_design ls d text (net, is) = record { net = net; is_module = is.is_module; tidy = is.tidy; small = is.small }
+of_design ls d text (net, is, explained) = record { net = net; is_module = is.is_module; tidy = is.tidy; small = is.small }
 
 of_system : (ls : Levels) (designs : List NamedDesign) (wires : List WireText) (text : List ℕ) → IsLinkedText ls designs wires text → IsWellMadeSystem ls designs wires text
 of_system ls designs wires text (net, is, linked, small) = record {
@@ -71,11 +75,18 @@ module _ (words : List (List ℕ)) (lost now answer : ℕ) (t n : Told) (a : Ans
       subst (λ (o : Option Words). Written (asks_if o) t n.files) is left
 
 module _ (lattice design out : List ℕ) (t n : Told) (ls : Levels) (d : DesignTree) (has : Has t lattice IsLatticeFile ls) (is : Has t design (IsWellFormedText ls) d) where
-  compiled : Written (asks (compile lattice design out)) t n.files → (text : List ℕ) × (n.files out ≡ Some text) × IsWellMade port_names (most_items ls d) text
+  compiled : Written (asks (compile lattice design out)) t n.files → (text : List ℕ) × (n.files out ≡ Some text) × IsModuleText ls d text
   compiled more =
       let behind = past_written t n.files lattice lattice_file (λ l. file design (design_file l) (λ x. writes out (IsModuleText l x))) lattice_lawful ls has more in
       let (text, module_for, files) = past_written t n.files design (design_file ls) (λ x. writes out (IsModuleText ls x)) (design_lawful ls) d is behind in
-      (text, ap (λ (fs : Files). fs out) files ∙ at_name-same out (Some text) t.files, of_design ls d text module_for)
+      (text, ap (λ (fs : Files). fs out) files ∙ at_name-same out (Some text) t.files, module_for)
+
+  well_made : Written (asks (compile lattice design out)) t n.files → (text : List ℕ) × (n.files out ≡ Some text) × IsWellMade port_names (most_items ls d) text
+  well_made more = let (text, left, module_for) = compiled more in (text, left, of_design ls d text module_for)
+
+  explained : Written (asks (compile lattice design out)) t n.files
+      → (text : List ℕ) × (n.files out ≡ Some text) × ((net : Net) × IsExplained (explanation ls d) text net)
+  explained more = let (text, left, module_for) = compiled more in (text, left, (module_for.0, module_for.2))
 
 module _ (lattice system out : List ℕ) (answer : ℕ) (t n : Told) (ls : Levels) (s : Listing) (designs : List NamedDesign) (are : AreForLink lattice system t ls s designs) where
   abbrev Made : Type 0
@@ -95,11 +106,15 @@ module _ (lattice system out : List ℕ) (answer : ℕ) (t n : Told) (ls : Level
 tidy : (words : List (List ℕ)) (lost now answer : ℕ) (t n : Told) → Answers words lost now answer t n → WritesWellMade words answer t n
 tidy words lost now answer t n a = record {
   compiles = λ lattice design out is zero ls d has formed.
-      compiled lattice design out t n ls d has formed (written words lost now answer t n a zero (compile lattice design out) is);
+      well_made lattice design out t n ls d has formed (written words lost now answer t n a zero (compile lattice design out) is);
   links = λ lattice system out is zero ls s designs are.
       linked lattice system out answer t n ls s designs are (caused words lost now answer t n a zero (link lattice system out) is)
       (written words lost now answer t n a zero (link lattice system out) is);
 }
+
+explains : (words : List (List ℕ)) (lost now answer : ℕ) (t n : Told) → Answers words lost now answer t n → Explains words answer t n
+explains words lost now answer t n a = λ lattice design out is zero ls d has formed.
+    explained lattice design out t n ls d has formed (written words lost now answer t n a zero (compile lattice design out) is)
 
 -- ---- between what a desk tells before and after
 
@@ -107,3 +122,8 @@ pub tidy_told : (words : List (List ℕ)) (lost now answer : ℕ) (old new : Opt
 tidy_told words lost now answer None new a = tt
 tidy_told words lost now answer (Some t) None a = absurd a
 tidy_told words lost now answer (Some t) (Some n) a = tidy words lost now answer t n a
+
+pub explains_told : (words : List (List ℕ)) (lost now answer : ℕ) (old new : Option Told) → Between old new (Answers words lost now answer) → Between old new (Explains words answer)
+explains_told words lost now answer None new a = tt
+explains_told words lost now answer (Some t) None a = absurd a
+explains_told words lost now answer (Some t) (Some n) a = explains words lost now answer t n a

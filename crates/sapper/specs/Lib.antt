@@ -1,5 +1,6 @@
 pub mod Answers
 pub mod Exact
+pub mod Explains
 pub mod Headline
 pub mod Links
 pub mod Tidy

@@ -8,6 +8,7 @@ ghost use Rattle.sap_words.specs.Words.{IsTwin, command_of as words_for};
 ghost use Rattle.sapper.specs.Answers.{Answers, MayAnswer};
 ghost use Rattle.sap_files.specs.Ending.{failed, line_of, refused, stimulus_refused};
 ghost use Rattle.sapper.specs.Exact.{Exact};
+ghost use Rattle.sapper.specs.Explains.{Explains};
 ghost use Rattle.sapper.specs.Headline.{Headline};
 ghost use Rattle.sapper.specs.Lines.{Reports, Tells};
 ghost use Rattle.sapper.specs.Links.{Links};
@@ -127,6 +128,7 @@ pub fn sapper<D: Desk>(alloc: Global, words: &[String], desk: &mut D) -> u8
     ensures headline { Between (D.told desk.old) (D.told desk.new) (Headline (map string_bytes words.now) result) }
     ensures links { Between (D.told desk.old) (D.told desk.new) (Links (map string_bytes words.now) (D.lost desk.old) (D.lost desk.new) result) }
     ensures tidy { Between (D.told desk.old) (D.told desk.new) (WritesWellMade (map string_bytes words.now) result) }
+    ensures explains { Between (D.told desk.old) (D.told desk.new) (Explains (map string_bytes words.now) result) }
     ensures taints { Between (D.told desk.old) (D.told desk.new) (Taints (map string_bytes words.now) (D.lost desk.old) (D.lost desk.new) result) }
     ensures waves { Between (D.told desk.old) (D.told desk.new) (Waves (map string_bytes words.now) result) }
     ensures unwaves { Between (D.told desk.old) (D.told desk.new) (Unwaves (map string_bytes words.now) (D.lost desk.old) (D.lost desk.new) result) }

@@ -7,7 +7,7 @@ use Rattle.sapper.proofs.Headline.{headline_told}
 use Rattle.sapper.proofs.Links.{links_told}
 use Rattle.sapper.proofs.Machines.{machines_told}
 use Rattle.sapper.proofs.Taints.{taints_told}
-use Rattle.sapper.proofs.Tidy.{tidy_told}
+use Rattle.sapper.proofs.Tidy.{explains_told, tidy_told}
 use Rattle.sapper.proofs.Waves.{unwaves_told, waves_told}
 use Rattle.sap_commands.proofs.CommandLaws.{lawful_words}
 use Rattle.sapper.proofs.call.sapper.Goals as goal
@@ -196,3 +196,12 @@ returns-in-Some-Err-clause-tidy g c = tidy_told (map string_bytes c.args.words.n
 
 pub returns-in-None-clause-tidy : goal.returns-in-None-clause-tidy
 returns-in-None-clause-tidy g c = tidy_told (map string_bytes c.args.words.now) _ _ 2 _ _ (returns-in-None-clause-answers g c)
+
+pub returns-in-Some-Ok-clause-explains : goal.returns-in-Some-Ok-clause-explains
+returns-in-Some-Ok-clause-explains g c = explains_told (map string_bytes c.args.words.now) _ _ 0 _ _ (returns-in-Some-Ok-clause-answers g c)
+
+pub returns-in-Some-Err-clause-explains : goal.returns-in-Some-Err-clause-explains
+returns-in-Some-Err-clause-explains g c = explains_told (map string_bytes c.args.words.now) _ _ c.report.result _ _ (returns-in-Some-Err-clause-answers g c)
+
+pub returns-in-None-clause-explains : goal.returns-in-None-clause-explains
+returns-in-None-clause-explains g c = explains_told (map string_bytes c.args.words.now) _ _ 2 _ _ (returns-in-None-clause-answers g c)
