@@ -13,6 +13,6 @@ enforced h h0 h1 last = entities (λ x. is_dynamic machine_world x && h x ≡ fa
 pub nothing_raised : Quiet (λ x. false)
 nothing_raised x = refl
 
-pub finished : (at : Home) (enter : ℕ → ℕ → Store → After) (pc : ℕ) (s : Store) → does_block machine_world at enter end_block pc s ≡ stay s
+pub finished : (at : Home) (enter : ℕ → ℕ → Store → After) (pc : ℕ) (s : Store) → does_block (within machine_world at enter) end_block pc s ≡ stay s
 unfolding does_block
 finished at enter pc s = refl

@@ -53,8 +53,8 @@ level_of_user f t = relevels 19 t f (record f { user = t })
 -- setTag(k, t), where its test holds
 pub retagged : (at : Home) (enter : ℕ → ℕ → Store → After) (site k t : ℕ) (cs : Block) (pc : ℕ) (f g : Frame) (v : Numbers)
     → Relevels k t f g → test machine_world at (retag site k (fixed t)) pc (store_of f v) ≡ true
-    → does_block machine_world at enter (command_then (lone (retag site k (fixed t))) cs) pc (store_of f v)
-    ≡ does_block machine_world at enter cs pc (store_of g (tagged_number (levels f (own k)) t k v))
+    → does_block (within machine_world at enter) (command_then (lone (retag site k (fixed t))) cs) pc (store_of f v)
+    ≡ does_block (within machine_world at enter) cs pc (store_of g (tagged_number (levels f (own k)) t k v))
 unfolding effect put_number
 retagged at enter site k t cs pc f g v relevels holds =
     accept machine_world at enter cs pc (store_of f v) (retag site k (fixed t)) (store_of g (tagged_number (levels f (own k)) t k v)) nothing_raised holds

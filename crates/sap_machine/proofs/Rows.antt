@@ -27,12 +27,12 @@ turn u x y = held_by (level_of u) x y
 
 -- what stands in User does so to a store of the user's turn, at the user's level
 abbrev pub Does : User → (x y : ℕ) → Numbers → Block → Numbers → Type 0
-Does u x y v b w = does_block machine_world at_user enter b (level_of u) (store_of (turn u x y) v) ≡ stay (store_of (turn u x y) w)
+Does u x y v b w = does_block (within machine_world at_user enter) b (level_of u) (store_of (turn u x y) v) ≡ stay (store_of (turn u x y) w)
 
 abbrev pub Leads : User → (x y : ℕ) → Numbers → Command → Numbers → Type 0
 Leads u x y v c w = (cs : Block)
-    → does_block machine_world at_user enter (command_then c cs) (level_of u) (store_of (turn u x y) v)
-    ≡ does_block machine_world at_user enter cs (level_of u) (store_of (turn u x y) w)
+    → does_block (within machine_world at_user enter) (command_then c cs) (level_of u) (store_of (turn u x y) v)
+    ≡ does_block (within machine_world at_user enter) cs (level_of u) (store_of (turn u x y) w)
 
 pub at_end : (u : User) (x y : ℕ) (v : Numbers) → Does u x y v end_block v
 unfolding does_block

@@ -100,7 +100,7 @@ module _ (d : Setting) (widths : Name → ℕ) (laws : Lawful d widths) where
   pub write_effect : (f : Going → Going) (go : Name → Going → Going) (enter : ℕ → ℕ → Store → After) (q : Group) (k free : ℕ) (sp : Home)
       (site m : ℕ) (i e : Term ℕ) (l : ℕ) (b r : Store) (g : Going)
       → FineStep d.world q sp.children (write site m i e) → Begins d k sp (write site m i e) l b r g
-      → Turns d free g (body_does widths f go (effect_of d sp k (write site m i e)) g) (effect d.world sp enter (write site m i e) l b r)
+      → Turns d free g (body_does widths f go (effect_of d sp k (write site m i e)) g) (effect (within d.world sp enter) (write site m i e) l b r)
   unfolding effect put_to put_number
   write_effect f go enter q k free sp site m i e l b r g fine h =
       let n = value d.world i b in
@@ -141,7 +141,7 @@ module _ (d : Setting) (widths : Name → ℕ) (laws : Lawful d widths) where
   pub retag_cell_effect : (f : Going → Going) (go : Name → Going → Going) (enter : ℕ → ℕ → Store
       → After) (q : Group) (k free : ℕ) (sp : Home) (site m : ℕ) (j : Term ℕ) (n : LevelTerm) (l : ℕ) (b r : Store) (g : Going)
       → FineStep d.world q sp.children (retag_cell site m j n) → Begins d k sp (retag_cell site m j n) l b r g
-      → Turns d free g (body_does widths f go (effect_of d sp k (retag_cell site m j n)) g) (effect d.world sp enter (retag_cell site m j n) l b r)
+      → Turns d free g (body_does widths f go (effect_of d sp k (retag_cell site m j n)) g) (effect (within d.world sp enter) (retag_cell site m j n) l b r)
   unfolding effect
   retag_cell_effect f go enter q k free sp site m j n l b r g fine h =
       let i = value d.world j b in

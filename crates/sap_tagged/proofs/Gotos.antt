@@ -117,7 +117,7 @@ module _ (d : Setting) (widths : Name → ℕ) (laws : Lawful d widths) where
 
     pub goto_effect : (enter : ℕ → ℕ → Store → After) (q : Group) (k free : ℕ) (sp : Home) (site target l : ℕ) (b r : Store) (g : Going) → GoesRun d go sp.parent q
         → among q target ≡ true → is_state d.world target ≡ true → is_memory d.world target ≡ false → Stands d g r → at d g (wire_key (k + 3)) ≡ d.code l
-        → Turns d free g (body_does widths f go (effect_of d sp k (go_to site target)) g) (effect d.world sp enter (go_to site target) l b r)
+        → Turns d free g (body_does widths f go (effect_of d sp k (go_to site target)) g) (effect (within d.world sp enter) (go_to site target) l b r)
     unfolding effect
     goto_effect enter q k free sp site target l b r g goes i state m st new =
         let end : Body =

@@ -110,4 +110,4 @@ FirstArm = rows repeated two_registers ((at_level left 1 ∷ []) ∷ (at_level l
 abbrev pub NothingBehind : Type 0
 NothingBehind = (w : World) (at : Home) (enter : ℕ → ℕ → Store
     → After) (k : Step) (hang : List Bool) (h : Block) (pc : ℕ) (s : Store)
-    → does w at enter (try k hang h) pc s ≡ does w at enter (try_then k hang end_block h) pc s
+    → does (within w at enter) (try k hang h) pc s ≡ does (within w at enter) (try_then k hang end_block h) pc s
