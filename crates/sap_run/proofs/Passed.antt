@@ -1,6 +1,6 @@
 -- The effect of a step that enters no child.
 use Rattle.std.proofs.Common.{◌≡◌, ℕ, List, refl}
-use Rattle.sap_meaning.specs.Prelude.{Store, After, stay, effect}
+use Rattle.sap_meaning.specs.Prelude.{within, Store, After, stay, effect}
 use Rattle.sap_meaning.specs.Checks as checks
 use Rattle.sap_program.specs.Views.{step_of}
 use Rattle.sap_program.specs.declared.program.Step.{Step}

@@ -4,7 +4,7 @@ use Rattle.std.proofs.lemmas.Bool.{cases_Bool}
 use Rattle.std.specs.declared.vec.Vec.{Vec}
 use Rattle.std.specs.declared.alloc.Global.{Global}
 use Rattle.sap_meaning.proofs.StoreLemmas.{and_stay}
-use Rattle.sap_meaning.specs.Prelude.{World, last_arm, root, listed, test, Store, After, stay, and_then, attempt, attempt_then, select, is_constant, listed_alone, run, run_arms, run_block, run_state, run_child}
+use Rattle.sap_meaning.specs.Prelude.{within, World, last_arm, root, listed, test, Store, After, stay, and_then, attempt, attempt_then, select, is_constant, listed_alone, run, run_arms, run_block, run_state, run_child}
 use Rattle.sap_meaning.specs.Program as program
 use Rattle.sap_meaning.specs.Checks as checks
 use Rattle.sap_program.specs.Prelude.{flags, term_of, step_of, block_of, arms_before, constants_of, group_of}

@@ -4,7 +4,7 @@ use Rattle.std.specs.Option.{unwrap_or}
 use Rattle.sap_meaning.specs.Program.{root, listed, last_arm}
 use Rattle.sap_meaning.specs.Program as program
 use Rattle.sap_meaning.specs.Store.{Store, raise, Refusal, After, stay}
-use Rattle.sap_meaning.specs.Does.{effect, attempt_then, select, branch, is_constant}
+use Rattle.sap_meaning.specs.Does.{within, effect, attempt_then, select, branch, is_constant}
 use Rattle.sap_meaning.specs.Runs.{run, run_block, run_state, run_child}
 use Rattle.sap_program.specs.Hangs.{flags}
 use Rattle.sap_program.specs.Views.{term_of, step_of, command_of, block_of, constants_of, commands_in, arms_before, state_of, group_of}
