@@ -2,7 +2,7 @@
 use Rattle.std.proofs.Common.{◌≡◌, ℕ, zero, suc, Bool, true, false, ◌+◌, ◌%◌, ◌++◌, refl, ap, ◌∙◌, List, [], ◌∷◌, eqb, if◌then◌else◌, arith}
 use Rattle.sap_maps.specs.Term.{Term, constant, read, two}
 use Rattle.sap_bits.specs.declared.Op2.TheVariants.{Add}
-use Rattle.sap_meaning.specs.Prelude.{Step, write, Block, end_block, command_then, lone, go_to, no_node, is_dynamic, Store, own, next, After, Refusal, stay, value, Home, guard, test, site_of, does_block, does, attempt, does_child, effect, touches, hangs, raised_alone, Tagged, cycle}
+use Rattle.sap_meaning.specs.Prelude.{within, Step, write, Block, end_block, command_then, lone, go_to, no_node, is_dynamic, Store, own, next, After, Refusal, stay, value, Home, guard, test, site_of, does_block, does, attempt, does_child, effect, touches, hangs, raised_alone, Tagged, cycle}
 use Rattle.std.specs.Prelude.{nat_lt}
 use Rattle.std.proofs.lemmas.Grind.{common_steps}
 use Rattle.sap_machine.proofs.Literal.{machine, machine_world, block}

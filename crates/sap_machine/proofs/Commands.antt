@@ -1,6 +1,6 @@
 -- What hangs on commands of the machine: nothing, for all but the inputs is enforced.
 use Rattle.std.proofs.Common.{◌≡◌, ℕ, Bool, false, ◌&&◌, refl}
-use Rattle.sap_meaning.specs.Prelude.{is_dynamic, end_block, Store, After, stay, Home, does_block}
+use Rattle.sap_meaning.specs.Prelude.{within, is_dynamic, end_block, Store, After, stay, Home, does_block}
 use Rattle.sap_meaning.proofs.Commands.{Quiet}
 use Rattle.sap_machine.proofs.Literal.{machine_world}
 use Rattle.sap_machine.proofs.Entities.{entities, past}

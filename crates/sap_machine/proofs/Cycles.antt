@@ -1,6 +1,6 @@
 -- A cycle of the machine, by the body of the state that it is in.
 use Rattle.std.proofs.Common.{◌≡◌, ◌||◌, refl, [], ◌∷◌}
-use Rattle.sap_meaning.specs.Prelude.{Group, no_node, Slot, own, start, source, settle, After, Home, among, group_assigns, root_touches, does_block, does_state, does_child, Tagged, cycle, set_inputs, root_fall}
+use Rattle.sap_meaning.specs.Prelude.{within, Group, no_node, Slot, own, start, source, settle, After, Home, among, group_assigns, root_touches, does_block, does_state, does_child, Tagged, cycle, set_inputs, root_fall}
 use Rattle.sap_machine.proofs.Literal.{machine, machine_world, states, block, group, state, user_body, run_body, kernel_body, boot_body}
 use Rattle.sap_machine.proofs.Entities.{entities, apart}
 use Rattle.sap_meaning.proofs.Commands.{Quiet, raise_quiet, same_store}

@@ -2,7 +2,7 @@
 use Rattle.std.proofs.Common.{◌≡◌, ℕ, false, refl, ap, ◌∙◌, [], ◌∷◌, eqb, if◌then◌else◌}
 use Rattle.sap_maps.specs.Term.{constant, read, two}
 use Rattle.sap_bits.specs.declared.Op2.TheVariants.{Sub}
-use Rattle.sap_meaning.specs.Prelude.{end_block, fall_to_child, Store, own, After, stay, does_block, does_child, does_state, effect, hangs, raised_alone, Tagged, cycle}
+use Rattle.sap_meaning.specs.Prelude.{within, end_block, fall_to_child, Store, own, After, stay, does_block, does_child, does_state, effect, hangs, raised_alone, Tagged, cycle}
 use Rattle.sap_meaning.proofs.Commands.{Quiet, take_else, accept}
 use Rattle.sap_machine.specs.declared.user.User.{User}
 use Rattle.sap_machine.specs.declared.user.User.TheVariants.{A, B}

@@ -3,7 +3,7 @@ use Rattle.std.proofs.Common.{◌≡◌, ℕ, true, ◌+◌, ◌-◌, ◌%◌, r
 use Rattle.sap_maps.specs.Term.{constant, read, one, two}
 use Rattle.sap_bits.specs.declared.Op1.TheVariants.{Not}
 use Rattle.sap_bits.specs.declared.Op2.TheVariants.{Sub}
-use Rattle.sap_meaning.specs.Prelude.{Command, Block, end_block, command_then, go_to, no_node, Store, own, After, stay, does_block, does_child, effect, touches, hangs, raised_alone, Tagged, cycle}
+use Rattle.sap_meaning.specs.Prelude.{within, Command, Block, end_block, command_then, go_to, no_node, Store, own, After, stay, does_block, does_child, effect, touches, hangs, raised_alone, Tagged, cycle}
 use Rattle.sap_meaning.proofs.Commands.{Quiet, take_then, take_else, accept}
 use Rattle.sap_machine.specs.declared.user.User.{User}
 use Rattle.sap_machine.specs.declared.user.User.TheVariants.{A, B}

@@ -1,6 +1,6 @@
 -- setTag of what the kernel retags.
 use Rattle.std.proofs.Common.{◌≡◌, ℕ, true, refl, ap, if◌then◌else◌}
-use Rattle.sap_meaning.specs.Prelude.{Block, fixed, retag, lone, command_then, Store, Slot, own, start, put_level, put_number, After, stay, Home, test, does_block, effect}
+use Rattle.sap_meaning.specs.Prelude.{within, Block, fixed, retag, lone, command_then, Store, Slot, own, start, put_level, put_number, After, stay, Home, test, does_block, effect}
 use Rattle.sap_meaning.proofs.Commands.{same_store, accept}
 use Rattle.sap_machine.proofs.Literal.{machine_world}
 use Rattle.sap_machine.proofs.Entities.{entities, apart}

@@ -2,7 +2,7 @@
 use Rattle.std.proofs.Common.{◌≡◌, ℕ, true, false, refl, ap, ◌∙◌, [], ◌∷◌, eqb, if◌then◌else◌}
 use Rattle.sap_maps.specs.Term.{Term, constant, read, cell, two}
 use Rattle.sap_bits.specs.declared.Op2.TheVariants.{Add, Sub}
-use Rattle.sap_meaning.specs.Prelude.{Block, command_then, end_block, no_node, Command, assign, go_to, is_dynamic, Store, own, After, stay, Home, test, value, tag, does_block, does_child, effect, touches, hangs, raised_alone}
+use Rattle.sap_meaning.specs.Prelude.{within, Block, command_then, end_block, no_node, Command, assign, go_to, is_dynamic, Store, own, After, stay, Home, test, value, tag, does_block, does_child, effect, touches, hangs, raised_alone}
 use Rattle.sap_meaning.proofs.Commands.{Quiet, take_then, take_else, accept}
 use Rattle.sap_machine.proofs.Literal.{machine_world, block, on, when, if_or, set, store, is, turn_of_a}
 use Rattle.sap_machine.proofs.Literal as M

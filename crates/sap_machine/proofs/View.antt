@@ -2,7 +2,7 @@
 use Rattle.std.proofs.Common.{◌≡◌, ℕ, Bool, true, false, List, [], ◌∷◌, nat_eq, get_or, if◌then◌else◌, refl, sym, ap, ◌∙◌, arith}
 use Rattle.std.proofs.lemmas.Grind.{common_steps}
 use Rattle.sap_maps.specs.Term.{Term}
-use Rattle.sap_meaning.specs.Prelude.{assign, write, Block, lone, if_else, command_then, is_dynamic, Store, Slot, own, start, next, start_whole, next_whole, same_slot, put_number, put_level, After, stay, value, tag, Home, test, touches, effect, does_block, first_level}
+use Rattle.sap_meaning.specs.Prelude.{within, assign, write, Block, lone, if_else, command_then, is_dynamic, Store, Slot, own, start, next, start_whole, next_whole, same_slot, put_number, put_level, After, stay, value, tag, Home, test, touches, effect, does_block, first_level}
 use Rattle.sap_machine.proofs.Literal.{machine_world}
 use Rattle.sap_meaning.proofs.Commands.{same_store, Quiet, accept, take_then, take_else}
 use Rattle.sap_machine.proofs.Commands.{nothing_raised}

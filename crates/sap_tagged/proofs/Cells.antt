@@ -1,7 +1,7 @@
 -- Effects on memories.
 use Rattle.sap_lemmas.proofs.Common.{◌≡◌, ℕ, ◌+◌, Bool, true, false, ◌&&◌, refl, sym, ap, ap₂, ◌∙◌, subst, nat_eq, inl, inr, if◌then◌else◌, ◌==◌, cases_Bool, eqb-true}
 use Rattle.sap_maps.specs.Prelude.{Name, Term}
-use Rattle.sap_meaning.specs.Prelude.{is_dynamic, is_memory, LevelTerm, write, retag_cell, Group, Slot, own, start, next, start_whole, next_whole, Store, number, level, home, same_slot, put_number, put_level, raise, After, value, tag, new_level, Home, effect, FineStep}
+use Rattle.sap_meaning.specs.Prelude.{within, is_dynamic, is_memory, LevelTerm, write, retag_cell, Group, Slot, own, start, next, start_whole, next_whole, Store, number, level, home, same_slot, put_number, put_level, raise, After, value, tag, new_level, Home, effect, FineStep}
 use Rattle.sap_ir.specs.Prelude.{Going, value_in, set_cell, body_does}
 use Rattle.sap_tagged.specs.Prelude.{Key, value_key, tag_key, seat_key, wire_key, first_key, same, Setting, var, lub, expr, effect_of, Lawful, at, tag_slot, Stands, Turns}
 use Rattle.sap_tagged.proofs.Bools.{tagged_memory}

@@ -1,7 +1,7 @@
 -- Effects of assignments, of new levels and of falls.
 use Rattle.sap_lemmas.proofs.Common.{◌≡◌, ℕ, ◌+◌, ◌≤◌, Bool, true, false, ◌||◌, List, refl, sym, ap, ◌∙◌, subst, nat_eq, inl, inr, if◌then◌else◌, ◌==◌, cases_Bool, eqb-true, or_right, true_is_not_false}
 use Rattle.sap_maps.specs.Prelude.{Name, Term}
-use Rattle.sap_meaning.specs.Prelude.{Kind, entity, is_dynamic, is_register, is_memory, kind_is_input, kind_is_register, kind_is_state, LevelTerm, Step, assign, retag, fall_to_child, Group, own, start, Store, number, level, child, put_number, put_level, After, value, tag, new_level, Home, guard, child_level, effect, FineStep}
+use Rattle.sap_meaning.specs.Prelude.{within, Kind, entity, is_dynamic, is_register, is_memory, kind_is_input, kind_is_register, kind_is_state, LevelTerm, Step, assign, retag, fall_to_child, Group, own, start, Store, number, level, child, put_number, put_level, After, value, tag, new_level, Home, guard, child_level, effect, FineStep}
 use Rattle.sap_meaning.specs.Program as program
 use Rattle.sap_ir.specs.Prelude.{Going, value_in, body_does}
 use Rattle.sap_tagged.specs.Prelude.{value_key, tag_key, seat_key, refused_key, level_key, wire_key, inner_key, Setting, expr, effect_of, Lawful, at, is_value, has_tag, Stands, Turns}

@@ -2,7 +2,7 @@
 use Rattle.sap_lemmas.proofs.Common.{◌≡◌, ℕ, ◌+◌, Bool, true, false, ◌&&◌, refl, sym, ap, ◌∙◌, subst, arith, nat_lt, nat_le, nat_eq, if◌then◌else◌, eqb-true}
 use Rattle.sap_meaning.proofs.ProgramLemmas.{memory_no_state, state_no_value}
 use Rattle.sap_maps.specs.Prelude.{Name, Term}
-use Rattle.sap_meaning.specs.Prelude.{World, root, entity, is_dynamic, is_state, is_memory, place, last, below, go_to, Group, own, next_whole, Store, put_number, put_level, put_child, lowered, reset, After, stay, Home, among, effect}
+use Rattle.sap_meaning.specs.Prelude.{within, World, root, entity, is_dynamic, is_state, is_memory, place, last, below, go_to, Group, own, next_whole, Store, put_number, put_level, put_child, lowered, reset, After, stay, Home, among, effect}
 use Rattle.sap_ir.specs.Prelude.{Going, Body, stop, goto, body_does}
 use Rattle.sap_tagged.specs.Prelude.{value_key, tag_key, seat_key, refused_key, level_key, wire_key, first_key, Setting, var, bits, gives, for_each, resets, effect_of, Lawful, at, is_value, has_tag, tag_slot, Stands, Turns}
 use Rattle.sap_tagged.proofs.Bools.{tagged_within}

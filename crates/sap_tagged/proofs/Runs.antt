@@ -2,7 +2,7 @@
 use Rattle.sap_lemmas.proofs.Common.{◌≡◌, ℕ, suc, ◌+◌, ◌*◌, ◌^◌, ◌<◌, ◌≤◌, Bool, List, ◌∷◌, length, get_or, refl, ap, ◌∙◌, arith, nat_eq, inl, inr, if◌then◌else◌, cases_Bool, test_symmetric}
 use Rattle.sap_tree.specs.Limits.{most_arms}
 use Rattle.sap_maps.specs.Prelude.{Name, Term}
-use Rattle.sap_meaning.specs.Prelude.{listed, Step, assign, write, retag, retag_cell, go_to, fall_to_child, Command, lone, try, if_else, try_then, case_of, Arms, last_arm, and_arm, Block, end_block, command_then, Group, Store, raise, Refusal, After, stay, and_then, value, tag, width_of, Home, site_of, guard, test, effect, attempt, attempt_then, select, branch, is_constant, run, run_arms, run_block, FineTerm, FineStep, FineCommand, Every, EveryInArms, EveryInBlock}
+use Rattle.sap_meaning.specs.Prelude.{within, listed, Step, assign, write, retag, retag_cell, go_to, fall_to_child, Command, lone, try, if_else, try_then, case_of, Arms, last_arm, and_arm, Block, end_block, command_then, Group, Store, raise, Refusal, After, stay, and_then, value, tag, width_of, Home, site_of, guard, test, effect, attempt, attempt_then, select, branch, is_constant, run, run_arms, run_block, FineTerm, FineStep, FineCommand, Every, EveryInArms, EveryInBlock}
 use Rattle.sap_ir.specs.Prelude.{Going, value_in, Body, stop, cases, body_does, follow}
 use Rattle.sap_ir.proofs.plain.SeatWidths.{seat_holds}
 use Rattle.sap_tagged.specs.Prelude.{value_key, tag_key, seat_key, refused_key, level_key, wire_key, Setting, var, lub, expr, tag_of, always, raises, looks, effect_of, refusal, outcome, attempt_of, outcome_then, attempt_then_of, arm_count, pick_width, picks, decides, pick_of, select_of, wires, wires_arms, wires_block, command_plain, arms_plain, block_plain, Few, FewArms, FewBlock, Lawful, at, Stands, refused_after, level_after, Turns}

@@ -1,7 +1,7 @@
 -- Nothing behind an accepted step.
 use Rattle.sap_lemmas.proofs.Common.{◌≡◌, ℕ, Bool, refl, sym, inl, inr, cases_Bool}
 use Rattle.sap_meaning.proofs.StoreLemmas.{and_stay}
-use Rattle.sap_meaning.specs.Prelude.{World, Step, try, Store, After, stay, Home, test, touches, attempt, attempt_then, does, does_block}
+use Rattle.sap_meaning.specs.Prelude.{within, World, Step, try, Store, After, stay, Home, test, touches, attempt, attempt_then, does, does_block}
 use Rattle.sap_worked.specs.Deciding.{NothingBehind}
 
 attempt_is : (w : World) (at : Home) (enter : ℕ → ℕ → Store → After) (k : Step) (hangs : ℕ → Bool) (h : ℕ → Store → After) (pc : ℕ) (s : Store)

@@ -4,7 +4,7 @@ use Rattle.sap_maps.specs.Term.{read}
 use Rattle.sap_meaning.specs.Program.{World, Step, Block, last_arm, and_arm, case_of, assign, lone, try, try_then, end_block, command_then, state_node, no_node, and_node, Program}
 use Rattle.sap_meaning.specs.Store.{Store, After, own}
 use Rattle.sap_meaning.specs.Checks.{Home}
-use Rattle.sap_meaning.specs.Does.{does}
+use Rattle.sap_meaning.specs.Does.{within, does}
 use Rattle.sap_meaning.specs.Examples.{four_levels, an_input, a_register, held_register, held_state, at_level, refused_at, program_of, loop}
 use Rattle.sap_worked.specs.Rows.{low, left, right, high, put, goes, Look, row, rows}
 
