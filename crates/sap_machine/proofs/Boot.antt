@@ -2,7 +2,7 @@
 use Rattle.std.proofs.Common.{◌≡◌, ℕ, zero, suc, Bool, true, false, ◌+◌, ◌%◌, ◌++◌, refl, ap, ◌∙◌, List, [], ◌∷◌, eqb, if◌then◌else◌, arith}
 use Rattle.sap_maps.specs.Term.{Term, constant, read, two}
 use Rattle.sap_bits.specs.declared.Op2.TheVariants.{Add}
-use Rattle.sap_meaning.specs.Prelude.{Step, write, Block, end_block, command_then, lone, go_to, no_node, is_dynamic, Store, own, next, After, Refusal, stay, value, Home, guard, test, site_of, does_block, does, attempt, does_child, effect, touches, hangs, raised_alone, Tagged, cycle}
+use Rattle.sap_meaning.specs.Prelude.{within, Step, write, Block, end_block, command_then, lone, go_to, no_node, is_dynamic, Store, own, next, After, Refusal, stay, value, Home, guard, test, site_of, does_block, does, attempt, does_child, effect, touches, hangs, raised_alone, Tagged, cycle}
 use Rattle.std.specs.Prelude.{nat_lt}
 use Rattle.std.proofs.lemmas.Grind.{common_steps}
 use Rattle.sap_machine.proofs.Literal.{machine, machine_world, block}
@@ -26,17 +26,17 @@ refusal k l = record { site = k; level = l }
 
 refuse : (at : Home) (enter : ℕ → ℕ → Store → After) (k : Step) (cs : Block) (pc : ℕ) (s : Store)
     → Quiet (raised_alone machine_world at k) → test machine_world at k pc s ≡ false
-    → does_block machine_world at enter (command_then (lone k) cs) pc s
-    ≡ behind (refusal (site_of k) (machine_world.order.join pc (guard machine_world at k s)) ∷ []) (does_block machine_world at enter cs pc s)
+    → does_block (within machine_world at enter) (command_then (lone k) cs) pc s
+    ≡ behind (refusal (site_of k) (machine_world.order.join pc (guard machine_world at k s)) ∷ []) (does_block (within machine_world at enter) cs pc s)
 unfolding does_block does attempt
 refuse at enter k cs pc s quiet fails = rw (raise_quiet machine_world.order (raised_alone machine_world at k) (guard machine_world at k s) s quiet, fails) refl
 
 -- m[i] := e, whether its test holds or not
 stored_or_not : (holds : Bool) (at : Home) (enter : ℕ → ℕ → Store → After) (site m : ℕ) (i e : Term ℕ) (cs : Block) (pc : ℕ) (f : Frame) (v : Numbers)
     → is_dynamic machine_world m ≡ false → test machine_world at (write site m i e) pc (store_of f v) ≡ holds
-    → does_block machine_world at enter (command_then (lone (write site m i e)) cs) pc (store_of f v)
+    → does_block (within machine_world at enter) (command_then (lone (write site m i e)) cs) pc (store_of f v)
     ≡ behind (if holds then [] else refusal site (machine_world.order.join pc (guard machine_world at (write site m i e) (store_of f v))) ∷ [])
-    (does_block machine_world at enter cs pc (store_of f (if holds then put (next m (value machine_world i (store_of f v))) (value machine_world e (store_of f v)) v else v)))
+    (does_block (within machine_world at enter) cs pc (store_of f (if holds then put (next m (value machine_world i (store_of f v))) (value machine_world e (store_of f v)) v else v)))
 stored_or_not true at enter site m i e cs pc f v enforced_memory is = stored at enter site m i e cs pc f v enforced_memory is
 stored_or_not false at enter site m i e cs pc f v enforced_memory is = refuse at enter (write site m i e) cs pc (store_of f v) nothing_raised is
 
@@ -75,7 +75,7 @@ abbrev fork : Block
 fork = block (M.if_or (M.is 4 (read M.n) 0) (M.goto 4 M.kernel ∷ []) (M.goto 5 M.boot ∷ []) ∷ [])
 
 forks : (last : Bool) (x y : ℕ) (v : Numbers) → eqb (v (own 7)) 0 ≡ last
-    → does_block machine_world at_boot enter fork 0 (store_of (boot_frame 0 x y) v) ≡ stay (store_of (boot_frame (if last then 1 else 0) x y) v)
+    → does_block (within machine_world at_boot enter) fork 0 (store_of (boot_frame 0 x y) v) ≡ stay (store_of (boot_frame (if last then 1 else 0) x y) v)
 unfolding effect
 forks true x y v is =
     take_then machine_world at_boot enter end_block 0 (store_of (boot_frame 0 x y) v) (M.is 4 (read M.n) 0) M.none

@@ -1,6 +1,6 @@
 -- A cycle of the machine, by the body of the state that it is in.
 use Rattle.std.proofs.Common.{◌≡◌, ◌||◌, refl, [], ◌∷◌}
-use Rattle.sap_meaning.specs.Prelude.{Group, no_node, Slot, own, start, source, settle, After, Home, among, group_assigns, root_touches, does_block, does_state, does_child, Tagged, cycle, set_inputs, root_fall}
+use Rattle.sap_meaning.specs.Prelude.{within, Group, no_node, Slot, own, start, source, settle, After, Home, among, group_assigns, root_touches, does_block, does_state, does_child, Tagged, cycle, set_inputs, root_fall}
 use Rattle.sap_machine.proofs.Literal.{machine, machine_world, states, block, group, state, user_body, run_body, kernel_body, boot_body}
 use Rattle.sap_machine.proofs.Entities.{entities, apart}
 use Rattle.sap_meaning.proofs.Commands.{Quiet, raise_quiet, same_store}
@@ -61,13 +61,13 @@ abbrev pub ended : After → After
 ended a = record { store = settle a.store; refused = a.refused }
 
 abbrev pub in_boot : Frame → Numbers → After
-in_boot f v = does_block machine_world at_boot (does_child machine_world no_node 16) (block boot_body) 0 (store_of f v)
+in_boot f v = does_block (within machine_world at_boot (does_child machine_world no_node 16)) (block boot_body) 0 (store_of f v)
 
 abbrev pub in_kernel : Frame → Numbers → After
-in_kernel f v = does_block machine_world at_kernel (does_child machine_world no_node 17) (block kernel_body) 0 (store_of f v)
+in_kernel f v = does_block (within machine_world at_kernel (does_child machine_world no_node 17)) (block kernel_body) 0 (store_of f v)
 
 abbrev pub in_run : Frame → Numbers → After
-in_run f v = does_block machine_world at_run (does_child machine_world users 18) (block run_body) 0 (store_of f v)
+in_run f v = does_block (within machine_world at_run (does_child machine_world users 18)) (block run_body) 0 (store_of f v)
 
 pub cycle_in_boot : (f : Frame) (v : Numbers) (t u : Tagged)
     → cycle machine (t ∷ u ∷ []) (store_of (record f { current = 0 }) v) ≡ ended (in_boot (tagged t u (record f { current = 0 })) (fed t u v))

@@ -2,7 +2,7 @@
 use Rattle.std.proofs.Common.{◌≡◌, ℕ, false, refl, ap, ◌∙◌, [], ◌∷◌, eqb, if◌then◌else◌}
 use Rattle.sap_maps.specs.Term.{constant, read, two}
 use Rattle.sap_bits.specs.declared.Op2.TheVariants.{Sub}
-use Rattle.sap_meaning.specs.Prelude.{end_block, fall_to_child, Store, own, After, stay, does_block, does_child, does_state, effect, hangs, raised_alone, Tagged, cycle}
+use Rattle.sap_meaning.specs.Prelude.{within, end_block, fall_to_child, Store, own, After, stay, does_block, does_child, does_state, effect, hangs, raised_alone, Tagged, cycle}
 use Rattle.sap_meaning.proofs.Commands.{Quiet, take_else, accept}
 use Rattle.sap_machine.specs.declared.user.User.{User}
 use Rattle.sap_machine.specs.declared.user.User.TheVariants.{A, B}
@@ -41,7 +41,7 @@ fall_quiet : Quiet (raised_alone machine_world at_run (fall_to_child 30 M.none))
 fall_quiet = enforced (hangs 18 users (M.fall 30)) refl refl (λ x. simp apart refl)
 
 falls : (u : User) (x y : ℕ) (v : Numbers) → v (own 6) ≡ turn_of u
-    → does_block machine_world at_run run_enter (block (M.fall 30 ∷ [])) 0 (store_of (turn u x y) v) ≡ stay (store_of (turn u x y) (worked u v))
+    → does_block (within machine_world at_run run_enter) (block (M.fall 30 ∷ [])) 0 (store_of (turn u x y) v) ≡ stay (store_of (turn u x y) (worked u v))
 unfolding effect does_child does_state
 falls A x y v who =
     accept machine_world at_run run_enter end_block 0 (store_of (turn A x y) v) (fall_to_child 30 M.none) (store_of (turn A x y) (worked A v)) fall_quiet refl (body A x y v who)

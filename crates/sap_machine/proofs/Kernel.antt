@@ -3,7 +3,7 @@ use Rattle.std.proofs.Common.{◌≡◌, ℕ, true, ◌+◌, ◌-◌, ◌%◌, r
 use Rattle.sap_maps.specs.Term.{constant, read, one, two}
 use Rattle.sap_bits.specs.declared.Op1.TheVariants.{Not}
 use Rattle.sap_bits.specs.declared.Op2.TheVariants.{Sub}
-use Rattle.sap_meaning.specs.Prelude.{Command, Block, end_block, command_then, go_to, no_node, Store, own, After, stay, does_block, does_child, effect, touches, hangs, raised_alone, Tagged, cycle}
+use Rattle.sap_meaning.specs.Prelude.{within, Command, Block, end_block, command_then, go_to, no_node, Store, own, After, stay, does_block, does_child, effect, touches, hangs, raised_alone, Tagged, cycle}
 use Rattle.sap_meaning.proofs.Commands.{Quiet, take_then, take_else, accept}
 use Rattle.sap_machine.specs.declared.user.User.{User}
 use Rattle.sap_machine.specs.declared.user.User.TheVariants.{A, B}
@@ -23,7 +23,7 @@ enter = does_child machine_world no_node 17
 
 -- what some commands at the front of the kernel's body, the rest of which is cs, lead to
 abbrev Leads : Command → Frame → Numbers → Frame → Numbers → Type 0
-Leads c f v g w = (cs : Block) → does_block machine_world at_kernel enter (command_then c cs) 0 (store_of f v) ≡ does_block machine_world at_kernel enter cs 0 (store_of g w)
+Leads c f v g w = (cs : Block) → does_block (within machine_world at_kernel enter) (command_then c cs) 0 (store_of f v) ≡ does_block (within machine_world at_kernel enter) cs 0 (store_of g w)
 
 abbrev keep : User → List Command
 keep A = set 6 M.apc (two Sub (read M.pc) (constant 4 1)) ∷ set 7 M.aacc (read M.acc) ∷ []
@@ -105,9 +105,9 @@ keeps u l x y v of_a who = keeps_a 1 x y v of_a who
 keeps u l x y v of_b who = keeps_b_at 2 x y v refl refl who
 
 zeroes : (l x y : ℕ) (v : Numbers) (cs : Block)
-    → does_block machine_world at_kernel enter
+    → does_block (within machine_world at_kernel enter)
     (command_then (set_tag 10 M.pc 0) (command_then (set_tag 11 M.acc 0) (command_then (set_tag 12 M.ir 0) cs))) 0 (store_of (kernel_frame l x y) v)
-    ≡ does_block machine_world at_kernel enter cs 0 (store_of (zeroed_frame l x y) (zeroed l v))
+    ≡ does_block (within machine_world at_kernel enter) cs 0 (store_of (zeroed_frame l x y) (zeroed l v))
 zeroes l x y v cs =
     let f : Frame = kernel_frame l x y in
     let f1 : Frame = record f { pc = 0 } in
@@ -156,7 +156,7 @@ takes B l x y v who cs =
     ∙ finished at_kernel enter 0 (store_of g (taken B l v)))
 
 -- cnt := 4; goto Run
-leaves : (t x y : ℕ) (v : Numbers) → does_block machine_world at_kernel enter (block (set 26 M.cnt (constant 3 4) ∷ M.goto 27 M.run ∷ [])) 0
+leaves : (t x y : ℕ) (v : Numbers) → does_block (within machine_world at_kernel enter) (block (set 26 M.cnt (constant 3 4) ∷ M.goto 27 M.run ∷ [])) 0
     (store_of (kernel_frame t x y) v) ≡ stay (store_of (held_by t x y) (put (own 5) 4 v))
 unfolding effect
 leaves t x y v =

@@ -1,6 +1,6 @@
 -- setTag of what the kernel retags.
 use Rattle.std.proofs.Common.{◌≡◌, ℕ, true, refl, ap, if◌then◌else◌}
-use Rattle.sap_meaning.specs.Prelude.{Block, fixed, retag, lone, command_then, Store, Slot, own, start, put_level, put_number, After, stay, Home, test, does_block, effect}
+use Rattle.sap_meaning.specs.Prelude.{within, Block, fixed, retag, lone, command_then, Store, Slot, own, start, put_level, put_number, After, stay, Home, test, does_block, effect}
 use Rattle.sap_meaning.proofs.Commands.{same_store, accept}
 use Rattle.sap_machine.proofs.Literal.{machine_world}
 use Rattle.sap_machine.proofs.Entities.{entities, apart}
@@ -53,8 +53,8 @@ level_of_user f t = relevels 19 t f (record f { user = t })
 -- setTag(k, t), where its test holds
 pub retagged : (at : Home) (enter : ℕ → ℕ → Store → After) (site k t : ℕ) (cs : Block) (pc : ℕ) (f g : Frame) (v : Numbers)
     → Relevels k t f g → test machine_world at (retag site k (fixed t)) pc (store_of f v) ≡ true
-    → does_block machine_world at enter (command_then (lone (retag site k (fixed t))) cs) pc (store_of f v)
-    ≡ does_block machine_world at enter cs pc (store_of g (tagged_number (levels f (own k)) t k v))
+    → does_block (within machine_world at enter) (command_then (lone (retag site k (fixed t))) cs) pc (store_of f v)
+    ≡ does_block (within machine_world at enter) cs pc (store_of g (tagged_number (levels f (own k)) t k v))
 unfolding effect put_number
 retagged at enter site k t cs pc f g v relevels holds =
     accept machine_world at enter cs pc (store_of f v) (retag site k (fixed t)) (store_of g (tagged_number (levels f (own k)) t k v)) nothing_raised holds

@@ -2,7 +2,7 @@
 use Rattle.std.proofs.Common.{◌≡◌, ℕ, true, false, refl, ap, ◌∙◌, [], ◌∷◌, eqb, if◌then◌else◌}
 use Rattle.sap_maps.specs.Term.{Term, constant, read, cell, two}
 use Rattle.sap_bits.specs.declared.Op2.TheVariants.{Add, Sub}
-use Rattle.sap_meaning.specs.Prelude.{Block, command_then, end_block, no_node, Command, assign, go_to, is_dynamic, Store, own, After, stay, Home, test, value, tag, does_block, does_child, effect, touches, hangs, raised_alone}
+use Rattle.sap_meaning.specs.Prelude.{within, Block, command_then, end_block, no_node, Command, assign, go_to, is_dynamic, Store, own, After, stay, Home, test, value, tag, does_block, does_child, effect, touches, hangs, raised_alone}
 use Rattle.sap_meaning.proofs.Commands.{Quiet, take_then, take_else, accept}
 use Rattle.sap_machine.proofs.Literal.{machine_world, block, on, when, if_or, set, store, is, turn_of_a}
 use Rattle.sap_machine.proofs.Literal as M
@@ -27,12 +27,12 @@ turn u x y = held_by (level_of u) x y
 
 -- what stands in User does so to a store of the user's turn, at the user's level
 abbrev pub Does : User → (x y : ℕ) → Numbers → Block → Numbers → Type 0
-Does u x y v b w = does_block machine_world at_user enter b (level_of u) (store_of (turn u x y) v) ≡ stay (store_of (turn u x y) w)
+Does u x y v b w = does_block (within machine_world at_user enter) b (level_of u) (store_of (turn u x y) v) ≡ stay (store_of (turn u x y) w)
 
 abbrev pub Leads : User → (x y : ℕ) → Numbers → Command → Numbers → Type 0
 Leads u x y v c w = (cs : Block)
-    → does_block machine_world at_user enter (command_then c cs) (level_of u) (store_of (turn u x y) v)
-    ≡ does_block machine_world at_user enter cs (level_of u) (store_of (turn u x y) w)
+    → does_block (within machine_world at_user enter) (command_then c cs) (level_of u) (store_of (turn u x y) v)
+    ≡ does_block (within machine_world at_user enter) cs (level_of u) (store_of (turn u x y) w)
 
 pub at_end : (u : User) (x y : ℕ) (v : Numbers) → Does u x y v end_block v
 unfolding does_block

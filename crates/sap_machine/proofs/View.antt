@@ -2,7 +2,7 @@
 use Rattle.std.proofs.Common.{◌≡◌, ℕ, Bool, true, false, List, [], ◌∷◌, nat_eq, get_or, if◌then◌else◌, refl, sym, ap, ◌∙◌, arith}
 use Rattle.std.proofs.lemmas.Grind.{common_steps}
 use Rattle.sap_maps.specs.Term.{Term}
-use Rattle.sap_meaning.specs.Prelude.{assign, write, Block, lone, if_else, command_then, is_dynamic, Store, Slot, own, start, next, start_whole, next_whole, same_slot, put_number, put_level, After, stay, value, tag, Home, test, touches, effect, does_block, first_level}
+use Rattle.sap_meaning.specs.Prelude.{within, assign, write, Block, lone, if_else, command_then, is_dynamic, Store, Slot, own, start, next, start_whole, next_whole, same_slot, put_number, put_level, After, stay, value, tag, Home, test, touches, effect, does_block, first_level}
 use Rattle.sap_machine.proofs.Literal.{machine_world}
 use Rattle.sap_meaning.proofs.Commands.{same_store, Quiet, accept, take_then, take_else}
 use Rattle.sap_machine.proofs.Commands.{nothing_raised}
@@ -61,8 +61,8 @@ level_kept k t s e = same_store (put_level machine_world (own k) t s) s (λ z. r
 -- x := e, where its test holds
 pub assigned : (at : Home) (enter : ℕ → ℕ → Store → After) (site x : ℕ) (e : Term ℕ) (cs : Block) (pc : ℕ) (f : Frame) (v : Numbers)
     → is_dynamic machine_world x ≡ false → test machine_world at (assign site x e) pc (store_of f v) ≡ true
-    → does_block machine_world at enter (command_then (lone (assign site x e)) cs) pc (store_of f v)
-    ≡ does_block machine_world at enter cs pc (store_of f (put (own x) (value machine_world e (store_of f v)) v))
+    → does_block (within machine_world at enter) (command_then (lone (assign site x e)) cs) pc (store_of f v)
+    ≡ does_block (within machine_world at enter) cs pc (store_of f (put (own x) (value machine_world e (store_of f v)) v))
 unfolding effect put_number
 assigned at enter site x e cs pc f v enforced holds =
     accept machine_world at enter cs pc (store_of f v) (assign site x e) (store_of f (put (own x) (value machine_world e (store_of f v)) v)) nothing_raised holds
@@ -71,8 +71,8 @@ assigned at enter site x e cs pc f v enforced holds =
 -- m[i] := e, where its test holds
 pub stored : (at : Home) (enter : ℕ → ℕ → Store → After) (site m : ℕ) (i e : Term ℕ) (cs : Block) (pc : ℕ) (f : Frame) (v : Numbers)
     → is_dynamic machine_world m ≡ false → test machine_world at (write site m i e) pc (store_of f v) ≡ true
-    → does_block machine_world at enter (command_then (lone (write site m i e)) cs) pc (store_of f v)
-    ≡ does_block machine_world at enter cs pc (store_of f (put (next m (value machine_world i (store_of f v))) (value machine_world e (store_of f v)) v))
+    → does_block (within machine_world at enter) (command_then (lone (write site m i e)) cs) pc (store_of f v)
+    ≡ does_block (within machine_world at enter) cs pc (store_of f (put (next m (value machine_world i (store_of f v))) (value machine_world e (store_of f v)) v))
 unfolding effect put_number
 stored at enter site m i e cs pc f v enforced holds =
     accept machine_world at enter cs pc (store_of f v) (write site m i e)
@@ -83,10 +83,10 @@ stored at enter site m i e cs pc f v enforced holds =
 pub chosen : (at : Home) (enter : ℕ → ℕ → Store → After) (e : Term ℕ) (a b cs : Block) (hang : List Bool) (pc : ℕ) (f : Frame) (v yes_v no_v : Numbers) (holds : Bool)
     → Quiet (touches machine_world at (if_else hang e a b)) → machine_world.order.join pc (tag machine_world e (store_of f v)) ≡ pc
     → value machine_world e (store_of f v) ≡ (let n : ℕ = if holds then 1 else 0 in n)
-    → does_block machine_world at enter a pc (store_of f v) ≡ stay (store_of f yes_v)
-    → does_block machine_world at enter b pc (store_of f v) ≡ stay (store_of f no_v)
-    → does_block machine_world at enter (command_then (if_else hang e a b) cs) pc (store_of f v)
-    ≡ does_block machine_world at enter cs pc (store_of f (if holds then yes_v else no_v))
+    → does_block (within machine_world at enter) a pc (store_of f v) ≡ stay (store_of f yes_v)
+    → does_block (within machine_world at enter) b pc (store_of f v) ≡ stay (store_of f no_v)
+    → does_block (within machine_world at enter) (command_then (if_else hang e a b) cs) pc (store_of f v)
+    ≡ does_block (within machine_world at enter) cs pc (store_of f (if holds then yes_v else no_v))
 chosen at enter e a b cs hang pc f v yes_v no_v true quiet context is then_is else_is =
     take_then machine_world at enter cs pc (store_of f v) e hang a b quiet context (store_of f yes_v) is then_is
 chosen at enter e a b cs hang pc f v yes_v no_v false quiet context is then_is else_is =

@@ -9,7 +9,7 @@ use Rattle.sap_meaning.specs.Store.{Slot, own, start, next, start_whole, next_wh
 use Rattle.sap_meaning.specs.Expressions.{value, tag, level_at, new_level, width_of}
 use Rattle.sap_meaning.specs.Checks.{Home, guard, test, child_level}
 use Rattle.sap_meaning.specs.Touches.{touches, raised_alone, root_touches}
-use Rattle.sap_meaning.specs.Does.{effect, attempt, attempt_then, select, branch, does, does_arms, does_block, does_state, does_child}
+use Rattle.sap_meaning.specs.Does.{within, effect, attempt, attempt_then, select, branch, does, does_arms, does_block, does_state, does_child}
 use Rattle.sap_meaning.specs.Cycle.{Tagged, inputs_before, given, at_inputs, set_inputs, root_fall, cycle}
 use Rattle.sap_meaning.specs.State.{Fits, first, first_number, input_widths, AllFit, InputsFit}
 use Rattle.sap_meaning.specs.Fine.{FineLevel, FineStep, FineCommand, FineState, FineGroup, FineProgram}
@@ -86,7 +86,7 @@ module _ (w : World) (laws : Laws w.order) where
     child_level_fits (and_node (state_node c b k) g) zero s f = f.levels _
     child_level_fits (and_node (state_node c b k) g) (suc n) s f = child_level_fits g n s f
 
-    effect_fits : (k : Step) → FineStep w q at.children k → SizedStep w k → (pc : ℕ) (b s : Store) → Level pc → Fits w b → Fits w s → Fits w (effect w at enter k pc b s).store
+    effect_fits : (k : Step) → FineStep w q at.children k → SizedStep w k → (pc : ℕ) (b s : Store) → Level pc → Fits w b → Fits w s → Fits w (effect (within w at enter) k pc b s).store
     unfolding effect
     effect_fits (assign site x e) fine sized pc b s lp fb f =
         fits_level _ (own x) _ (picked (is_dynamic w x) _ _ _ (laws.join_is_level _ _) (f.levels _))
@@ -108,7 +108,7 @@ module _ (w : World) (laws : Laws w.order) where
     effect_fits (fall_to_child site hang) fine sized pc b s lp fb f = entering _ _ (laws.join_is_level _ _) s f
 
     attempt_fits : (k : Step) → FineStep w q at.children k → SizedStep w k → (hang : ℕ → Bool) (h : ℕ → Store → After)
-        → ((p : ℕ) → Level p → Fitting (h p)) → (pc : ℕ) → Level pc → Fitting (attempt w at enter k hang h pc)
+        → ((p : ℕ) → Level p → Fitting (h p)) → (pc : ℕ) → Level pc → Fitting (attempt (within w at enter) k hang h pc)
     unfolding attempt
     attempt_fits k fine sized hang h g pc lp s f =
         let up = fits_raise s hang (guard w at k s) f in
@@ -116,7 +116,7 @@ module _ (w : World) (laws : Laws w.order) where
 
     attempt_then_fits : (k : Step) → FineStep w q at.children k → SizedStep w k → (hang : ℕ → Bool) (a b : ℕ → Store → After)
         → ((p : ℕ) → Level p → Fitting (a p)) → ((p : ℕ) → Level p → Fitting (b p))
-        → (pc : ℕ) → Level pc → Fitting (attempt_then w at enter k hang a b pc)
+        → (pc : ℕ) → Level pc → Fitting (attempt_then (within w at enter) k hang a b pc)
     unfolding attempt_then
     attempt_then_fits k fine sized hang a b fa fb pc lp s f =
         let up = fits_raise s hang (guard w at k s) f in
@@ -132,29 +132,29 @@ module _ (w : World) (laws : Laws w.order) where
     mutual
       unfolding does does_arms does_block
 
-      does_fits : (c : Command) → Every (FineCommand w q at.children) c → Every (SizedCommand w) c → (pc : ℕ) → Level pc → Fitting (does w at enter c pc)
+      does_fits : (c : Command) → Every (FineCommand w q at.children) c → Every (SizedCommand w) c → (pc : ℕ) → Level pc → Fitting (does (within w at enter) c pc)
       does_fits (lone k) fine sized pc lp s f = attempt_fits k fine sized (raised_alone w at k) (λ p t. stay t) (λ p lq t h. h) pc lp s f
       does_fits (try k hang h) fine sized pc lp s f =
-          attempt_fits k fine.0 sized.0 (touches w at (try k hang h)) (does_block w at enter h) (λ p lq t i. block_fits h fine.1 sized.1 p lq t i) pc lp s f
+          attempt_fits k fine.0 sized.0 (touches w at (try k hang h)) (does_block (within w at enter) h) (λ p lq t i. block_fits h fine.1 sized.1 p lq t i) pc lp s f
       does_fits (if_else hang e a b) fine sized pc lp s f =
-          select_fits e (touches w at (if_else hang e a b)) (branch (does_block w at enter a) (does_block w at enter b))
-          (λ v p lq t i. branch_all (λ z. Fits w z.store) (does_block w at enter a) (does_block w at enter b) v p t
+          select_fits e (touches w at (if_else hang e a b)) (branch (does_block (within w at enter) a) (does_block (within w at enter) b))
+          (λ v p lq t i. branch_all (λ z. Fits w z.store) (does_block (within w at enter) a) (does_block (within w at enter) b) v p t
           (block_fits a fine.1 sized.1 p lq t i) (block_fits b fine.2 sized.2 p lq t i)) pc s f
       does_fits (try_then k hang a b) fine sized pc lp s f =
-          attempt_then_fits k fine.0 sized.0 (touches w at (try_then k hang a b)) (does_block w at enter a) (does_block w at enter b)
+          attempt_then_fits k fine.0 sized.0 (touches w at (try_then k hang a b)) (does_block (within w at enter) a) (does_block (within w at enter) b)
           (λ p lq t i. block_fits a fine.1 sized.1 p lq t i) (λ p lq t i. block_fits b fine.2 sized.2 p lq t i) pc lp s f
       does_fits (case_of hang e arms) fine sized pc lp s f =
-          select_fits e (touches w at (case_of hang e arms)) (does_arms w at enter arms) (λ v p lq t i. arms_fit arms fine.1 sized.1 v p lq t i) pc s f
+          select_fits e (touches w at (case_of hang e arms)) (does_arms (within w at enter) arms) (λ v p lq t i. arms_fit arms fine.1 sized.1 v p lq t i) pc s f
 
       arms_fit : (arms : Arms) → EveryInArms (FineCommand w q at.children) arms → EveryInArms (SizedCommand w) arms → (v pc : ℕ) → Level pc
-          → Fitting (does_arms w at enter arms v pc)
+          → Fitting (does_arms (within w at enter) arms v pc)
       arms_fit (last_arm b) fine sized v pc lp s f = block_fits b fine sized pc lp s f
       arms_fit (and_arm cs b arms) fine sized v pc lp s f =
-          choose_all (λ z. Fits w z.store) cs (does_block w at enter b) (does_arms w at enter arms) v pc s
+          choose_all (λ z. Fits w z.store) cs (does_block (within w at enter) b) (does_arms (within w at enter) arms) v pc s
           (block_fits b fine.0 sized.0 pc lp s f) (arms_fit arms fine.1 sized.1 v pc lp s f)
 
       pub block_fits : (b : Block) → EveryInBlock (FineCommand w q at.children) b → EveryInBlock (SizedCommand w) b → (pc : ℕ) → Level pc
-          → Fitting (does_block w at enter b pc)
+          → Fitting (does_block (within w at enter) b pc)
       block_fits end_block fine sized pc lp s f = f
       block_fits (command_then c cs) fine sized pc lp s f = block_fits cs fine.1 sized.1 pc lp _ (does_fits c fine.0 sized.0 pc lp s f)
 

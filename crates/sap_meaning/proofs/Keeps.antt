@@ -7,7 +7,7 @@ use Rattle.sap_meaning.specs.Store.{Slot, own, start, next, Store, owner, home, 
 use Rattle.sap_meaning.specs.Expressions.{tag, told}
 use Rattle.sap_meaning.specs.Checks.{Home, guard, test}
 use Rattle.sap_meaning.specs.Touches.{among, touches, raised_alone}
-use Rattle.sap_meaning.specs.Does.{effect, attempt, attempt_then, select, branch, is_constant, choose_arm, does, does_arms, does_block, does_state, does_child}
+use Rattle.sap_meaning.specs.Does.{within, effect, attempt, attempt_then, select, branch, is_constant, choose_arm, does, does_arms, does_block, does_state, does_child}
 use Rattle.sap_meaning.specs.Cycle.{Tagged, at_inputs, given, set_inputs}
 use Rattle.sap_meaning.specs.State.{Holds, Rests, first}
 pub use Rattle.sap_meaning.specs.Laws.{Keeps}
@@ -107,7 +107,7 @@ module _ (w : World) where
 
 module _ (w : World) (at : Home) (q : Group) (landing : (target : ℕ) → among q target ≡ true → place w target < children w at.parent)
     (enter : ℕ → ℕ → Store → After) (entering : (n pc : ℕ) → Keeps w (enter n pc)) where
-  pub effect_holds : (k : Step) → FineStep w q at.children k → (pc : ℕ) (b s : Store) → test w at k pc b ≡ true → Holds w s → Holds w (effect w at enter k pc b s).store
+  pub effect_holds : (k : Step) → FineStep w q at.children k → (pc : ℕ) (b s : Store) → test w at k pc b ≡ true → Holds w s → Holds w (effect (within w at enter) k pc b s).store
   unfolding effect
   effect_holds (assign site x e) fine pc b s t r = holds_level w _ (own x) _ (holds_number w s (own x) _ r) (λ d. rw d (r.above (own x) (held_register w x fine.0) d))
   effect_holds (write site m i e) fine pc b s t r = elim (cases_Bool (is_dynamic w m)) [
@@ -123,14 +123,14 @@ module _ (w : World) (at : Home) (q : Group) (landing : (target : ℕ) → among
   effect_holds (fall_to_child site hang) fine pc b s t r = entering _ _ s r
 
   pub attempt_holds : (k : Step) → FineStep w q at.children k → (hang : ℕ → Bool) (h : ℕ → Store → After) → OfDynamic w hang
-      → ((p : ℕ) → Keeps w (h p)) → (pc : ℕ) → Keeps w (attempt w at enter k hang h pc)
+      → ((p : ℕ) → Keeps w (h p)) → (pc : ℕ) → Keeps w (attempt (within w at enter) k hang h pc)
   unfolding attempt
   attempt_holds k fine hang h dyn f pc s r =
       let up = holds_raise w s hang (guard w at k s) dyn r in
       elim (cases_Bool (test w at k pc s)) [ inl t ↦ rw t (effect_holds k fine pc s _ t up) | inr t ↦ rw t (f _ _ up) ]
 
   pub attempt_then_holds : (k : Step) → FineStep w q at.children k → (hang : ℕ → Bool) (f g : ℕ → Store → After) → OfDynamic w hang
-      → ((p : ℕ) → Keeps w (f p)) → ((p : ℕ) → Keeps w (g p)) → (pc : ℕ) → Keeps w (attempt_then w at enter k hang f g pc)
+      → ((p : ℕ) → Keeps w (f p)) → ((p : ℕ) → Keeps w (g p)) → (pc : ℕ) → Keeps w (attempt_then (within w at enter) k hang f g pc)
   unfolding attempt_then
   attempt_then_holds k fine hang f g dyn kf kg pc s r =
       let up = holds_raise w s hang (guard w at k s) dyn r in
@@ -149,25 +149,25 @@ module _ (w : World) (at : Home) (q : Group) (landing : (target : ℕ) → among
   mutual
     unfolding does does_arms does_block
 
-    pub does_holds : (c : Command) → Every (FineCommand w q at.children) c → (pc : ℕ) → Keeps w (does w at enter c pc)
+    pub does_holds : (c : Command) → Every (FineCommand w q at.children) c → (pc : ℕ) → Keeps w (does (within w at enter) c pc)
     does_holds (lone k) fine pc s r = attempt_holds k fine (raised_alone w at k) (λ p t. stay t) (alone_dynamic k) (λ p t h. h) pc s r
-    does_holds (try k hang h) fine pc s r = attempt_holds k fine.0 (touches w at (try k hang h)) (does_block w at enter h)
+    does_holds (try k hang h) fine pc s r = attempt_holds k fine.0 (touches w at (try k hang h)) (does_block (within w at enter) h)
         (λ x i. and_left (is_dynamic w x) _ i) (λ p t i. block_holds h fine.1 p t i) pc s r
     does_holds (if_else hang e a b) fine pc s r =
-        select_holds e (touches w at (if_else hang e a b)) (branch (does_block w at enter a) (does_block w at enter b)) (λ x i. and_left (is_dynamic w x) _ i)
-        (λ v p t i. branch_all (λ z. Holds w z.store) (does_block w at enter a) (does_block w at enter b) v p t (block_holds a fine.1 p t i) (block_holds b fine.2 p t i)) pc s r
+        select_holds e (touches w at (if_else hang e a b)) (branch (does_block (within w at enter) a) (does_block (within w at enter) b)) (λ x i. and_left (is_dynamic w x) _ i)
+        (λ v p t i. branch_all (λ z. Holds w z.store) (does_block (within w at enter) a) (does_block (within w at enter) b) v p t (block_holds a fine.1 p t i) (block_holds b fine.2 p t i)) pc s r
     does_holds (try_then k hang a b) fine pc s r =
-        attempt_then_holds k fine.0 (touches w at (try_then k hang a b)) (does_block w at enter a) (does_block w at enter b) (λ x i. and_left (is_dynamic w x) _ i)
+        attempt_then_holds k fine.0 (touches w at (try_then k hang a b)) (does_block (within w at enter) a) (does_block (within w at enter) b) (λ x i. and_left (is_dynamic w x) _ i)
         (λ p t i. block_holds a fine.1 p t i) (λ p t i. block_holds b fine.2 p t i) pc s r
     does_holds (case_of hang e arms) fine pc s r =
-        select_holds e (touches w at (case_of hang e arms)) (does_arms w at enter arms) (λ x i. and_left (is_dynamic w x) _ i) (λ v p t i. arms_hold arms fine.1 v p t i) pc s r
+        select_holds e (touches w at (case_of hang e arms)) (does_arms (within w at enter) arms) (λ x i. and_left (is_dynamic w x) _ i) (λ v p t i. arms_hold arms fine.1 v p t i) pc s r
 
-    pub arms_hold : (arms : Arms) → EveryInArms (FineCommand w q at.children) arms → (v pc : ℕ) → Keeps w (does_arms w at enter arms v pc)
+    pub arms_hold : (arms : Arms) → EveryInArms (FineCommand w q at.children) arms → (v pc : ℕ) → Keeps w (does_arms (within w at enter) arms v pc)
     arms_hold (last_arm b) fine v pc s r = block_holds b fine pc s r
     arms_hold (and_arm cs b arms) fine v pc s r =
-        choose_all (λ z. Holds w z.store) cs (does_block w at enter b) (does_arms w at enter arms) v pc s (block_holds b fine.0 pc s r) (arms_hold arms fine.1 v pc s r)
+        choose_all (λ z. Holds w z.store) cs (does_block (within w at enter) b) (does_arms (within w at enter) arms) v pc s (block_holds b fine.0 pc s r) (arms_hold arms fine.1 v pc s r)
 
-    pub block_holds : (b : Block) → EveryInBlock (FineCommand w q at.children) b → (pc : ℕ) → Keeps w (does_block w at enter b pc)
+    pub block_holds : (b : Block) → EveryInBlock (FineCommand w q at.children) b → (pc : ℕ) → Keeps w (does_block (within w at enter) b pc)
     block_holds end_block fine pc s r = r
     block_holds (command_then c cs) fine pc s r = block_holds cs fine.1 pc _ (does_holds c fine.0 pc s r)
 

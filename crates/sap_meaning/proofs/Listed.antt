@@ -6,7 +6,7 @@ use Rattle.sap_meaning.specs.Store.{Store, child, settle, After, and_then}
 use Rattle.sap_meaning.specs.Expressions.{value}
 use Rattle.sap_meaning.specs.Checks.{Home, site_of, guard, test}
 use Rattle.sap_meaning.specs.Touches.{raised_alone, root_touches}
-use Rattle.sap_meaning.specs.Does.{effect, attempt, attempt_then, select, branch, is_constant, choose_arm, does, does_arms, does_block, does_state, does_child}
+use Rattle.sap_meaning.specs.Does.{within, effect, attempt, attempt_then, select, branch, is_constant, choose_arm, does, does_arms, does_block, does_state, does_child}
 use Rattle.sap_meaning.specs.Runs.{listed_alone, run, run_arms, run_block, run_state, run_child}
 use Rattle.sap_meaning.specs.Cycle.{set_inputs, root_fall, cycle, cycle_listed}
 use Rattle.sap_meaning.specs.Fine.{ExactStep, ExactState, ExactGroup, ExactCommand}
@@ -23,12 +23,12 @@ then_same : (a b : After) (f g : Store → After) → a ≡ b → ((s : Store) �
 then_same a b f g e h = rw e (ap (λ (r : After). let z : After = record { store = r.store; refused = b.refused ++ r.refused } in z) (h b.store))
 
 module _ (w : World) (at : Home) (enter enter' : ℕ → ℕ → Store → After) (same : (n : ℕ) → Alike (enter n) (enter' n)) where
-  effect_same : (k : Step) (pc : ℕ) (b s : Store) → effect w at enter k pc b s ≡ effect w at enter' k pc b s
+  effect_same : (k : Step) (pc : ℕ) (b s : Store) → effect (within w at enter) k pc b s ≡ effect (within w at enter') k pc b s
   unfolding effect
   effect_same (fall_to_child site hang) pc b s = same _ _ s
   effect_same _ pc b s = refl
 
-  attempt_same : (k : Step) (h i : ℕ → Bool) (f g : ℕ → Store → After) → ((x : ℕ) → h x ≡ i x) → Alike f g → Alike (attempt w at enter k h f) (attempt w at enter' k i g)
+  attempt_same : (k : Step) (h i : ℕ → Bool) (f g : ℕ → Store → After) → ((x : ℕ) → h x ≡ i x) → Alike f g → Alike (attempt (within w at enter) k h f) (attempt (within w at enter') k i g)
   unfolding attempt
   attempt_same k h i f g e a pc s = rw (same_test h i e) (elim (cases_Bool (test w at k pc s)) [
     | inl t ↦ rw t (effect_same k pc s _)
@@ -37,7 +37,7 @@ module _ (w : World) (at : Home) (enter enter' : ℕ → ℕ → Store → After
   ])
 
   attempt_then_same : (k : Step) (h i : ℕ → Bool) (f f' g g' : ℕ → Store → After) → ((x : ℕ) → h x ≡ i x) → Alike f f' → Alike g g'
-      → Alike (attempt_then w at enter k h f g) (attempt_then w at enter' k i f' g')
+      → Alike (attempt_then (within w at enter) k h f g) (attempt_then (within w at enter') k i f' g')
   unfolding attempt_then
   attempt_then_same k h i f f' g g' e a b pc s = rw (same_test h i e) (elim (cases_Bool (test w at k pc s)) [
     | inl t ↦ rw t (then_same _ _ _ _ (effect_same k pc s _) (λ r. a (w.order.join pc (guard w at k s)) r))
@@ -64,19 +64,19 @@ module _ (w : World) (at : Home) (enter enter' : ℕ → ℕ → Store → After
   mutual
     unfolding run run_arms run_block does does_arms does_block
 
-    run_same : (c : Command) → Every (ExactCommand w at) c → Alike (run w at enter c) (does w at enter' c)
+    run_same : (c : Command) → Every (ExactCommand w at) c → Alike (run (within w at enter) c) (does (within w at enter') c)
     run_same (lone k) fine = attempt_same k _ _ _ _ (alone_same k fine) (λ pc s. refl)
     run_same (try k hang h) fine = attempt_same k _ _ _ _ fine.0 (block_same h fine.1)
     run_same (if_else hang e a b) fine = select_same e _ _ _ _ _ _ fine.0 (block_same a fine.1) (block_same b fine.2)
     run_same (try_then k hang a b) fine = attempt_then_same k _ _ _ _ _ _ fine.0 (block_same a fine.1) (block_same b fine.2)
     run_same (case_of hang e arms) fine = pick_same e _ _ _ _ fine.0 (λ v. arms_same arms fine.1 v)
 
-    arms_same : (arms : Arms) → EveryInArms (ExactCommand w at) arms → (v : ℕ) → Alike (run_arms w at enter arms v) (does_arms w at enter' arms v)
+    arms_same : (arms : Arms) → EveryInArms (ExactCommand w at) arms → (v : ℕ) → Alike (run_arms (within w at enter) arms v) (does_arms (within w at enter') arms v)
     arms_same (last_arm b) fine v = block_same b fine
     arms_same (and_arm cs b arms) fine v =
-        choose_same cs _ _ (run_arms w at enter arms) (does_arms w at enter' arms) v (block_same b fine.0) (arms_same arms fine.1 v)
+        choose_same cs _ _ (run_arms (within w at enter) arms) (does_arms (within w at enter') arms) v (block_same b fine.0) (arms_same arms fine.1 v)
 
-    pub block_same : (b : Block) → EveryInBlock (ExactCommand w at) b → Alike (run_block w at enter b) (does_block w at enter' b)
+    pub block_same : (b : Block) → EveryInBlock (ExactCommand w at) b → Alike (run_block (within w at enter) b) (does_block (within w at enter') b)
     block_same end_block fine pc s = refl
     block_same (command_then c cs) fine pc s = then_same _ _ _ _ (run_same c fine.0 pc s) (λ r. block_same cs fine.1 pc r)
 

@@ -6,7 +6,7 @@ use Rattle.sap_meaning.specs.Program.{World, is_dynamic, root, Step, assign, wri
 use Rattle.sap_meaning.specs.Store.{Store, child, raise, Refusal, After, stay}
 use Rattle.sap_meaning.specs.Checks.{Home, child_opens, guard, test}
 use Rattle.sap_meaning.specs.Touches.{touches, raised_alone, root_touches}
-use Rattle.sap_meaning.specs.Does.{effect, attempt, attempt_then, select, branch, does, does_arms, does_block, does_state, does_child}
+use Rattle.sap_meaning.specs.Does.{within, effect, attempt, attempt_then, select, branch, does, does_arms, does_block, does_state, does_child}
 use Rattle.sap_meaning.specs.Cycle.{set_inputs, root_fall, cycle}
 use Rattle.sap_meaning.specs.Fine.{transfers, Open, Closes, Final, ClosingArms, FineState, FineGroup, NoTransfer}
 use Rattle.sap_meaning.specs.Sites.{some_enforced, is_site, PlacedStep, step_sites, command_sites, arms_sites, block_sites, state_sites, group_sites, program_sites, refused_sites, Sublist, RisesFrom}
@@ -60,12 +60,12 @@ module _ (w : World) where
     abbrev OwnArms : Arms → List PlacedStep
     OwnArms arms = arms_sites w at.state at.children arms
 
-    effect_from : (k : Step) (pc : ℕ) (b s : Store) → From (effect w at enter k pc b s) below
+    effect_from : (k : Step) (pc : ℕ) (b s : Store) → From (effect (within w at enter) k pc b s) below
     unfolding effect
     effect_from (fall_to_child site hang) pc b s = entering _ _ s
     effect_from _ pc b s = tt
 
-    effect_none : (k : Step) → transfers k ≡ false → (pc : ℕ) (b s : Store) → From (effect w at enter k pc b s) []
+    effect_none : (k : Step) → transfers k ≡ false → (pc : ℕ) (b s : Store) → From (effect (within w at enter) k pc b s) []
     unfolding effect
     effect_none (go_to site target) plain pc b s = cc
     effect_none (fall_to_child site hang) plain pc b s = cc
@@ -73,8 +73,8 @@ module _ (w : World) where
 
     -- a step whose effect refuses some of ys, and whose handler some of zs
     attempt_from : (k : Step) (hang : ℕ → Bool) (h : ℕ → Store → After) (ys zs : List PlacedStep)
-        → ((pc : ℕ) (b s : Store) → From (effect w at enter k pc b s) ys) → ((xs : List ℕ) → AreAmong xs ys → AreAmong xs zs)
-        → ((p : ℕ) (t : Store) → From (h p t) zs) → (pc : ℕ) (s : Store) → From (attempt w at enter k hang h pc s) (Own k ++ zs)
+        → ((pc : ℕ) (b s : Store) → From (effect (within w at enter) k pc b s) ys) → ((xs : List ℕ) → AreAmong xs ys → AreAmong xs zs)
+        → ((p : ℕ) (t : Store) → From (h p t) zs) → (pc : ℕ) (s : Store) → From (attempt (within w at enter) k hang h pc s) (Own k ++ zs)
     unfolding attempt
     attempt_from k hang h ys zs f into g pc s = elim (cases_Bool (test w at k pc s)) [
       | inl t ↦ rw t (sites_behind _ (Own k) zs (into _ (f pc s _)))
@@ -92,10 +92,10 @@ module _ (w : World) where
     -- a step that is no transfer, and whose parts refuse some of ys
     attempt_then_from : (k : Step) → transfers k ≡ false → (hang : ℕ → Bool) (f g : ℕ → Store → After) (ys : List PlacedStep)
         → ((p : ℕ) (t : Store) → From (f p t) ys) → ((p : ℕ) (t : Store) → From (g p t) ys)
-        → (pc : ℕ) (s : Store) → From (attempt_then w at enter k hang f g pc s) (Own k ++ ys)
+        → (pc : ℕ) (s : Store) → From (attempt_then (within w at enter) k hang f g pc s) (Own k ++ ys)
     unfolding attempt_then
     attempt_then_from k plain hang f g ys a b pc s = elim (cases_Bool (test w at k pc s)) [
-      | inl t ↦ rw (t, refused-append (effect w at enter k pc s (raise w.order hang (guard w at k s) s)).refused)
+      | inl t ↦ rw (t, refused-append (effect (within w at enter) k pc s (raise w.order hang (guard w at k s) s)).refused)
           (sites_behind _ (Own k) ys (sites_append _ [] _ ys (effect_none k plain pc s (raise w.order hang (guard w at k s) s)) (a _ _)))
       | inr t ↦ rw t (elim (cases_Bool (is_site w at.state at.children k)) [
         | inl i ↦ rw i (inl (refl, b _ _))
@@ -115,76 +115,76 @@ module _ (w : World) where
     mutual
       unfolding does does_arms does_block
 
-      open_from : (c : Command) → Open c → (pc : ℕ) (s : Store) → From (does w at enter c pc s) (command_sites w at.state at.children c)
-      open_from (lone k) plain pc s = subst (λ ys. From (attempt w at enter k (raised_alone w at k) (λ p t. stay t) pc s) ys)
+      open_from : (c : Command) → Open c → (pc : ℕ) (s : Store) → From (does (within w at enter) c pc s) (command_sites w at.state at.children c)
+      open_from (lone k) plain pc s = subst (λ ys. From (attempt (within w at enter) k (raised_alone w at k) (λ p t. stay t) pc s) ys)
           (append-nil (Own k)) (attempt_from k (raised_alone w at k) (λ p t. stay t) [] [] (effect_none k plain) (λ xs h. h) (λ p t. tt) pc s)
-      open_from (try k hang h) plain pc s = attempt_from k (touches w at (try k hang h)) (does_block w at enter h) [] (OwnBlock h)
+      open_from (try k hang h) plain pc s = attempt_from k (touches w at (try k hang h)) (does_block (within w at enter) h) [] (OwnBlock h)
           (effect_none k plain.0) (λ xs i. none xs (OwnBlock h) i) (λ p t. open_list h plain.1 p t) pc s
       open_from (if_else hang e a b) plain pc s =
-          select_from e (touches w at (if_else hang e a b)) (does_block w at enter a) (does_block w at enter b) (OwnBlock a ++ OwnBlock b)
+          select_from e (touches w at (if_else hang e a b)) (does_block (within w at enter) a) (does_block (within w at enter) b) (OwnBlock a ++ OwnBlock b)
           (λ p t. sites_front _ (OwnBlock a) (OwnBlock b) (open_list a plain.1 p t)) (λ p t. sites_behind _ (OwnBlock a) (OwnBlock b) (open_list b plain.2 p t)) pc s
       open_from (try_then k hang a b) plain pc s =
-          attempt_then_from k plain.0 (touches w at (try_then k hang a b)) (does_block w at enter a) (does_block w at enter b) (OwnBlock a ++ OwnBlock b)
+          attempt_then_from k plain.0 (touches w at (try_then k hang a b)) (does_block (within w at enter) a) (does_block (within w at enter) b) (OwnBlock a ++ OwnBlock b)
           (λ p t. sites_front _ (OwnBlock a) (OwnBlock b) (open_list a plain.1 p t)) (λ p t. sites_behind _ (OwnBlock a) (OwnBlock b) (open_list b plain.2 p t)) pc s
       open_from (case_of hang e arms) plain pc s =
-          pick_from e (touches w at (case_of hang e arms)) (does_arms w at enter arms) (OwnArms arms) (λ v p t. open_arms arms plain.1 v p t) pc s
+          pick_from e (touches w at (case_of hang e arms)) (does_arms (within w at enter) arms) (OwnArms arms) (λ v p t. open_arms arms plain.1 v p t) pc s
 
-      open_arms : (arms : Arms) → EveryInArms NoTransfer arms → (v pc : ℕ) (s : Store) → From (does_arms w at enter arms v pc s) (OwnArms arms)
+      open_arms : (arms : Arms) → EveryInArms NoTransfer arms → (v pc : ℕ) (s : Store) → From (does_arms (within w at enter) arms v pc s) (OwnArms arms)
       open_arms (last_arm b) plain v pc s = open_list b plain pc s
       open_arms (and_arm cs b arms) plain v pc s =
-          choose_all (λ z. From z (OwnBlock b ++ OwnArms arms)) cs (does_block w at enter b) (does_arms w at enter arms) v pc s
+          choose_all (λ z. From z (OwnBlock b ++ OwnArms arms)) cs (does_block (within w at enter) b) (does_arms (within w at enter) arms) v pc s
           (sites_front _ (OwnBlock b) (OwnArms arms) (open_list b plain.0 pc s)) (sites_behind _ (OwnBlock b) (OwnArms arms) (open_arms arms plain.1 v pc s))
 
-      open_list : (b : Block) → EveryInBlock NoTransfer b → (pc : ℕ) (s : Store) → From (does_block w at enter b pc s) (OwnBlock b)
+      open_list : (b : Block) → EveryInBlock NoTransfer b → (pc : ℕ) (s : Store) → From (does_block (within w at enter) b pc s) (OwnBlock b)
       open_list end_block plain pc s = tt
       open_list (command_then c cs) plain pc s =
-          rw (refused-append (does w at enter c pc s).refused)
+          rw (refused-append (does (within w at enter) c pc s).refused)
           (sites_append _ (command_sites w at.state at.children c) _ (OwnBlock cs) (open_from c plain.0 pc s) (open_list cs plain.1 pc _))
 
     mutual
       unfolding does does_arms does_block
 
-      final_from : (c : Command) → Final c → (pc : ℕ) (s : Store) → From (does w at enter c pc s) (command_sites w at.state at.children c ++ below)
+      final_from : (c : Command) → Final c → (pc : ℕ) (s : Store) → From (does (within w at enter) c pc s) (command_sites w at.state at.children c ++ below)
       final_from (lone k) final pc s = attempt_from k (raised_alone w at k) (λ p t. stay t) below below (effect_from k) (λ xs h. h) (λ p t. tt) pc s
       final_from (try k hang h) final pc s =
-          subst (λ ys. From (attempt w at enter k (touches w at (try k hang h)) (does_block w at enter h) pc s) ys) (sym (append_assoc (Own k) (OwnBlock h) below))
-          (attempt_from k (touches w at (try k hang h)) (does_block w at enter h) below (OwnBlock h ++ below) (effect_from k)
+          subst (λ ys. From (attempt (within w at enter) k (touches w at (try k hang h)) (does_block (within w at enter) h) pc s) ys) (sym (append_assoc (Own k) (OwnBlock h) below))
+          (attempt_from k (touches w at (try k hang h)) (does_block (within w at enter) h) below (OwnBlock h ++ below) (effect_from k)
           (λ xs i. sites_behind xs (OwnBlock h) below i) (λ p t. closing_from h final.1 p t) pc s)
       final_from (if_else hang e a b) final pc s =
-          select_from e (touches w at (if_else hang e a b)) (does_block w at enter a) (does_block w at enter b) ((OwnBlock a ++ OwnBlock b) ++ below)
+          select_from e (touches w at (if_else hang e a b)) (does_block (within w at enter) a) (does_block (within w at enter) b) ((OwnBlock a ++ OwnBlock b) ++ below)
           (λ p t. sites_between _ (OwnBlock a) (OwnBlock b) below (closing_from a final.0 p t))
-          (λ p t. subst (λ ys. From (does_block w at enter b p t) ys) (sym (append_assoc (OwnBlock a) (OwnBlock b) below))
+          (λ p t. subst (λ ys. From (does_block (within w at enter) b p t) ys) (sym (append_assoc (OwnBlock a) (OwnBlock b) below))
           (sites_behind _ (OwnBlock a) (OwnBlock b ++ below) (closing_from b final.1 p t))) pc s
       final_from (try_then k hang a b) final pc s =
-          subst (λ ys. From (attempt_then w at enter k (touches w at (try_then k hang a b)) (does_block w at enter a) (does_block w at enter b) pc s) ys)
+          subst (λ ys. From (attempt_then (within w at enter) k (touches w at (try_then k hang a b)) (does_block (within w at enter) a) (does_block (within w at enter) b) pc s) ys)
           (sym (append_assoc (Own k) (OwnBlock a ++ OwnBlock b) below))
-          (attempt_then_from k final.0 (touches w at (try_then k hang a b)) (does_block w at enter a) (does_block w at enter b) ((OwnBlock a ++ OwnBlock b) ++ below)
+          (attempt_then_from k final.0 (touches w at (try_then k hang a b)) (does_block (within w at enter) a) (does_block (within w at enter) b) ((OwnBlock a ++ OwnBlock b) ++ below)
           (λ p t. sites_between _ (OwnBlock a) (OwnBlock b) below (closing_from a final.1 p t))
-          (λ p t. subst (λ ys. From (does_block w at enter b p t) ys) (sym (append_assoc (OwnBlock a) (OwnBlock b) below))
+          (λ p t. subst (λ ys. From (does_block (within w at enter) b p t) ys) (sym (append_assoc (OwnBlock a) (OwnBlock b) below))
           (sites_behind _ (OwnBlock a) (OwnBlock b ++ below) (closing_from b final.2 p t))) pc s)
       final_from (case_of hang e arms) final pc s =
-          pick_from e (touches w at (case_of hang e arms)) (does_arms w at enter arms) (OwnArms arms ++ below) (λ v p t. closing_arms arms final v p t) pc s
+          pick_from e (touches w at (case_of hang e arms)) (does_arms (within w at enter) arms) (OwnArms arms ++ below) (λ v p t. closing_arms arms final v p t) pc s
 
-      closing_arms : (arms : Arms) → ClosingArms arms → (v pc : ℕ) (s : Store) → From (does_arms w at enter arms v pc s) (OwnArms arms ++ below)
+      closing_arms : (arms : Arms) → ClosingArms arms → (v pc : ℕ) (s : Store) → From (does_arms (within w at enter) arms v pc s) (OwnArms arms ++ below)
       closing_arms (last_arm b) closes v pc s = closing_from b closes pc s
       closing_arms (and_arm cs b arms) closes v pc s =
-          choose_all (λ z. From z ((OwnBlock b ++ OwnArms arms) ++ below)) cs (does_block w at enter b) (does_arms w at enter arms) v pc s
+          choose_all (λ z. From z ((OwnBlock b ++ OwnArms arms) ++ below)) cs (does_block (within w at enter) b) (does_arms (within w at enter) arms) v pc s
           (sites_between _ (OwnBlock b) (OwnArms arms) below (closing_from b closes.0 pc s))
-          (subst (λ ys. From (does_arms w at enter arms v pc s) ys) (sym (append_assoc (OwnBlock b) (OwnArms arms) below))
+          (subst (λ ys. From (does_arms (within w at enter) arms v pc s) ys) (sym (append_assoc (OwnBlock b) (OwnArms arms) below))
           (sites_behind _ (OwnBlock b) (OwnArms arms ++ below) (closing_arms arms closes.1 v pc s)))
 
-      pub closing_from : (b : Block) → Closes b → (pc : ℕ) (s : Store) → From (does_block w at enter b pc s) (OwnBlock b ++ below)
+      pub closing_from : (b : Block) → Closes b → (pc : ℕ) (s : Store) → From (does_block (within w at enter) b pc s) (OwnBlock b ++ below)
       closing_from end_block closes pc s = absurd closes
       closing_from (command_then c end_block) closes pc s =
           rw (
-            refused-append (does w at enter c pc s).refused,
-            append-nil (refused_sites (does w at enter c pc s).refused),
+            refused-append (does (within w at enter) c pc s).refused,
+            append-nil (refused_sites (does (within w at enter) c pc s).refused),
             append-nil (command_sites w at.state at.children c),
           ) (final_from c closes pc s)
       closing_from (command_then c (command_then d ds)) closes pc s =
-          rw (refused-append (does w at enter c pc s).refused)
-          (subst (λ ys. AreAmong (refused_sites (does w at enter c pc s).refused
-          ++ refused_sites (does_block w at enter (command_then d ds) pc (does w at enter c pc s).store).refused) ys)
+          rw (refused-append (does (within w at enter) c pc s).refused)
+          (subst (λ ys. AreAmong (refused_sites (does (within w at enter) c pc s).refused
+          ++ refused_sites (does_block (within w at enter) (command_then d ds) pc (does (within w at enter) c pc s).store).refused) ys)
           (sym (append_assoc (command_sites w at.state at.children c) (OwnBlock (command_then d ds)) below))
           (sites_append _ (command_sites w at.state at.children c) _ (OwnBlock (command_then d ds) ++ below) (open_from c closes.0 pc s)
           (closing_from (command_then d ds) closes.1 pc _)))

@@ -31,10 +31,24 @@ Alike o l = AlikeBy (Low o l) (High o l)
 abbrev pub SlotsAlike : World → ℕ → Slot → Store → Store → Type 0
 SlotsAlike w l z s t = Alike w.order l (number z s ≡ number z t) (level w z s) (level w z t)
 
--- One part of a dynamic memory looks alike: its level is kept at `whole`, and its content is all its cells.
-abbrev pub PartsAlike : World → ℕ → (cell : ℕ → Slot) → (whole : Slot) → Store → Store → Type 0
-PartsAlike w l cell whole s t = Alike w.order l ((i : ℕ) → number (cell i) s ≡ number (cell i) t)
-    (level w whole s) (level w whole t)
+-- A part of a dynamic memory: the slots of its cells, and the slot of its one level.
+pub record Part : Type 0 where
+  pub cell : ℕ → Slot
+  pub whole : Slot
+
+-- The part of a memory with which the cycle began.
+abbrev pub start_part : (memory : ℕ) → Part
+start_part m = record { cell = start m; whole = start_whole m }
+
+-- The part of a memory with which the next cycle begins.
+abbrev pub next_part : (memory : ℕ) → Part
+next_part m = record { cell = next m; whole = next_whole m }
+
+-- A part of a dynamic memory looks alike at `l` in two stores: its content is all its cells, and its tag is its one
+-- level.
+abbrev pub PartsAlike : World → (l : ℕ) → Part → Store → Store → Type 0
+PartsAlike w l part s t = Alike w.order l ((i : ℕ) → number (part.cell i) s ≡ number (part.cell i) t)
+    (level w part.whole s) (level w part.whole t)
 
 -- A state on the active path has a tag.
 pub record ActiveState : Type 0 where
@@ -70,7 +84,7 @@ pub record StatesAgree (p : Program) (l : ℕ) (s t : Store) : Type 0 where
   pub enforced_memories : (m i : ℕ) → is_memory p.world m ≡ true → is_dynamic p.world m ≡ false
       → SlotsAlike p.world l (start m i) s t × SlotsAlike p.world l (next m i) s t
   pub dynamic_memories : (m : ℕ) → is_memory p.world m ≡ true → is_dynamic p.world m ≡ true
-      → PartsAlike p.world l (start m) (start_whole m) s t × PartsAlike p.world l (next m) (next_whole m) s t
+      → PartsAlike p.world l (start_part m) s t × PartsAlike p.world l (next_part m) s t
   -- Registers, cells and states whose authority is at or below l have equal levels, whether active or not.
   pub enforced_levels : (z : Slot) → held p.world z ≡ true → is_dynamic p.world (owner z) ≡ false
       → Low p.world.order l (authority p.world (owner z))

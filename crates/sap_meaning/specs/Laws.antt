@@ -4,7 +4,7 @@ use Rattle.sap_meaning.specs.Program.{World, Program, children, place, Command, 
 use Rattle.sap_meaning.specs.Store.{Store, After}
 use Rattle.sap_meaning.specs.Checks.{Home}
 use Rattle.sap_meaning.specs.Touches.{among}
-use Rattle.sap_meaning.specs.Does.{does}
+use Rattle.sap_meaning.specs.Does.{Action, within, does}
 use Rattle.sap_meaning.specs.Cycle.{Tagged, cycle, cycle_listed}
 use Rattle.sap_meaning.specs.State.{Holds, Resting, first, Fits, InputsFit}
 use Rattle.sap_meaning.specs.Fine.{FineProgram, FineCommand, ExactProgram}
@@ -25,8 +25,8 @@ Keeps w f = (s : Store) → Holds w s → Holds w (f s).store
 -- Each state of q has a place among the parent's children.
 abbrev pub CommandsKeep : Type 0
 CommandsKeep = (w : World) (at : Home) (q : Group) → ((s : ℕ) → among q s ≡ true → place w s < children w at.parent)
-    → (enter : ℕ → ℕ → Store → After) → ((n pc : ℕ) → Keeps w (enter n pc))
-    → (c : Command) → Every (FineCommand w q at.children) c → (pc : ℕ) → Keeps w (does w at enter c pc)
+    → (enter : ℕ → Action) → ((n pc : ℕ) → Keeps w (enter n pc))
+    → (c : Command) → Every (FineCommand w q at.children) c → (pc : ℕ) → Keeps w (does (within w at enter) c pc)
 
 -- The first state is one between cycles, and every cycle leads from such a state to another.
 abbrev pub StatesRest : Type 0

@@ -1,13 +1,13 @@
 -- The definitions of programs and their labelled meaning that proofs of other crates name, each from the file in which
 -- it stands. Declares nothing.
-pub use Rattle.sap_meaning.specs.Agree.{active_path, ActiveState, Alike, High, InputsAgree, Low, PartsAlike, path_from, PathsRelated, RefusalsAgree}
+pub use Rattle.sap_meaning.specs.Agree.{active_path, ActiveState, Alike, High, InputsAgree, Low, next_part, Part, PartsAlike, start_part, path_from, PathsRelated, RefusalsAgree}
 pub use Rattle.sap_meaning.specs.Agree.{Relation, seen, SlotsAlike, StatesAgree, StreamsAgree}
 pub use Rattle.sap_meaning.specs.Checks.{child_level, child_opens, entry, guard, Home, opens, site_of, test}
 pub use Rattle.sap_meaning.specs.Codes.{LookAlike}
 pub use Rattle.sap_meaning.specs.Cycle.{at_inputs, given, inputs_before, run_from, Tagged}
 unfoldable pub use Rattle.sap_meaning.specs.Cycle.{cycle, cycle_listed, root_fall, set_inputs}
 unfoldable pub use Rattle.sap_meaning.specs.Does.{attempt, attempt_then, does, does_arms, does_block, does_child, does_state, effect, select}
-pub use Rattle.sap_meaning.specs.Does.{branch, is_constant}
+pub use Rattle.sap_meaning.specs.Does.{Action, branch, is_constant, Surroundings, within}
 pub use Rattle.sap_meaning.specs.Examples.{four_levels}
 pub use Rattle.sap_meaning.specs.Expressions.{level_at, new_level, tag, told, value, width_of}
 pub use Rattle.sap_meaning.specs.Fine.{Closes, ClosingArms, ExactCommand, ExactGroup, ExactProgram, ExactStep, Final, FineCommand, FineGroup, FineLevel}

@@ -1,6 +1,6 @@
 -- The effect of a step that enters no child.
 use Rattle.std.proofs.Common.{◌≡◌, ℕ, List, refl}
-use Rattle.sap_meaning.specs.Prelude.{Store, After, stay, effect}
+use Rattle.sap_meaning.specs.Prelude.{within, Store, After, stay, effect}
 use Rattle.sap_meaning.specs.Checks as checks
 use Rattle.sap_program.specs.Views.{step_of}
 use Rattle.sap_program.specs.declared.program.Step.{Step}
@@ -19,7 +19,7 @@ is_effect (step.Goto site target) f = tt
 is_effect (step.Fall site hang) f = f site hang refl
 
 effect_done : (d : Environment) (at : checks.Home) (enter others : ℕ → ℕ → Store → After) (k : Step) (pc : ℕ) (b s : Store) → IsEffect k
-    → stay (effect (world_in d) at others (step_of (entities_in d) k) pc b s).store ≡ effect (world_in d) at enter (step_of (entities_in d) k) pc b s
+    → stay (effect (within (world_in d) at others) (step_of (entities_in d) k) pc b s).store ≡ effect (within (world_in d) at enter) (step_of (entities_in d) k) pc b s
 unfolding effect
 effect_done d at enter others (step.Set site x e) pc b s h = refl
 effect_done d at enter others (step.Write site m i e) pc b s h = refl

@@ -4,7 +4,7 @@ use Rattle.std.proofs.lemmas.Bool.{cases_Bool}
 use Rattle.std.specs.declared.vec.Vec.{Vec}
 use Rattle.std.specs.declared.alloc.Global.{Global}
 use Rattle.sap_meaning.proofs.StoreLemmas.{and_stay}
-use Rattle.sap_meaning.specs.Prelude.{World, last_arm, root, listed, test, Store, After, stay, and_then, attempt, attempt_then, select, is_constant, listed_alone, run, run_arms, run_block, run_state, run_child}
+use Rattle.sap_meaning.specs.Prelude.{within, World, last_arm, root, listed, test, Store, After, stay, and_then, attempt, attempt_then, select, is_constant, listed_alone, run, run_arms, run_block, run_state, run_child}
 use Rattle.sap_meaning.specs.Program as program
 use Rattle.sap_meaning.specs.Checks as checks
 use Rattle.sap_program.specs.Prelude.{flags, term_of, step_of, block_of, arms_before, constants_of, group_of}
@@ -25,7 +25,7 @@ use Rattle.sap_program.proofs.Shown.{command_of-do, command_of-try, command_of-i
 -- a step with nothing behind where it is accepted
 
 nothing_behind : (w : World) (at : checks.Home) (enter : ℕ → ℕ → Store → After) (k : program.Step) (hangs : ℕ → Bool) (h : ℕ → Store → After) (pc : ℕ) (s : Store)
-    → attempt w at enter k hangs h pc s ≡ attempt_then w at enter k hangs (λ p t. stay t) h pc s
+    → attempt (within w at enter) k hangs h pc s ≡ attempt_then (within w at enter) k hangs (λ p t. stay t) h pc s
 unfolding attempt attempt_then
 nothing_behind w at enter k hangs h pc s = elim (cases_Bool (test w at k pc s)) [ inl e ↦ rw e (sym (and_stay _)) | inr e ↦ rw e refl ]
 
@@ -36,7 +36,7 @@ module _ (d : Environment) (at : Home) (pc : ℕ) (s : Store) where
   run-do k hang e =
       let same : listed (flags (entities_in d) hang) ≡ listed_alone (world_in d) (home_in d at) (step_of (entities_in d) k) = λ i x. e x i in
       rw (command_of-do (entities_in d) k)
-      (ap (λ (h : ℕ → Bool). attempt (world_in d) (home_in d at) (entered d at.state at.children.now) (step_of (entities_in d) k) h (λ p t. stay t) pc s) (sym same)
+      (ap (λ (h : ℕ → Bool). attempt (within (world_in d) (home_in d at) (entered d at.state at.children.now)) (step_of (entities_in d) k) h (λ p t. stay t) pc s) (sym same)
       ∙ nothing_behind (world_in d) (home_in d at) (entered d at.state at.children.now) (step_of (entities_in d) k) (listed (flags (entities_in d) hang)) (λ p t. stay t) pc s)
 
   pub run-try : (k : Step) (hang : List ℕ) (h : Vec Command Global) → command_run d at (shown.Try k hang h) pc s ≡ attempt_run d at hang k [] h.items pc s
@@ -44,7 +44,7 @@ module _ (d : Environment) (at : Home) (pc : ℕ) (s : Store) where
   run-try k hang h =
       rw (command_of-try (entities_in d) k hang h)
       (nothing_behind (world_in d) (home_in d at) (entered d at.state at.children.now) (step_of (entities_in d) k) (listed (flags (entities_in d) hang))
-      (run_block (world_in d) (home_in d at) (entered d at.state at.children.now) (block_of (entities_in d) h.items)) pc s)
+      (run_block (within (world_in d) (home_in d at) (entered d at.state at.children.now)) (block_of (entities_in d) h.items)) pc s)
 
   pub run-then : (k : Step) (hang : List ℕ) (a b : Vec Command Global) → command_run d at (shown.TryThen k hang a b) pc s ≡ attempt_run d at hang k a.items b.items pc s
   unfolding run command_run attempt_run block_run
@@ -55,7 +55,7 @@ module _ (d : Environment) (at : Home) (pc : ℕ) (s : Store) where
   run-if hang e a b = rw (command_of-if (entities_in d) hang e a b) refl
 
   picked-run : (arms : List Arm) (last : List Command) (n p : ℕ) (t : Store)
-      → run_arms (world_in d) (home_in d at) (entered d at.state at.children.now) (arms_before (entities_in d) arms (last_arm (block_of (entities_in d) last))) n p t
+      → run_arms (within (world_in d) (home_in d at) (entered d at.state at.children.now)) (arms_before (entities_in d) arms (last_arm (block_of (entities_in d) last))) n p t
       ≡ block_run d at (picked_in arms last n) p t
   unfolding run_arms arms_before block_run
   picked-run [] last n p t = refl

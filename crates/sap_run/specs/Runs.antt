@@ -4,7 +4,7 @@ use Rattle.std.specs.Option.{unwrap_or}
 use Rattle.sap_meaning.specs.Program.{root, listed, last_arm}
 use Rattle.sap_meaning.specs.Program as program
 use Rattle.sap_meaning.specs.Store.{Store, raise, Refusal, After, stay}
-use Rattle.sap_meaning.specs.Does.{effect, attempt_then, select, branch, is_constant}
+use Rattle.sap_meaning.specs.Does.{within, effect, attempt_then, select, branch, is_constant}
 use Rattle.sap_meaning.specs.Runs.{run, run_block, run_state, run_child}
 use Rattle.sap_program.specs.Hangs.{flags}
 use Rattle.sap_program.specs.Views.{term_of, step_of, command_of, block_of, constants_of, commands_in, arms_before, state_of, group_of}
@@ -26,7 +26,7 @@ raised_by d here s = raise (world_in d).order (listed (flags (entities_in d) her
 
 -- The store that a step leaves which enters no child, behind what is raised; its site doesn't count.
 abbrev pub acted : Environment → Situation → program.Step → Store → Store
-acted d here k s = (effect (world_in d) (home_in d here.at.now) (λ n pc t. stay t) k here.context s
+acted d here k s = (effect (within (world_in d) (home_in d here.at.now) (λ n pc t. stay t)) k here.context s
     (raised_by d here s)).store
 
 -- Every step but a fall.
@@ -51,25 +51,25 @@ entered d p kids = run_child (world_in d) (group_of (entities_in d) kids) p
 
 -- What a list of commands does.
 unfoldable pub block_run : Environment → Home → List Command → ℕ → Store → After
-block_run d at cs = run_block (world_in d) (home_in d at) (entered d at.state at.children.now)
+block_run d at cs = run_block (within (world_in d) (home_in d at) (entered d at.state at.children.now))
     (block_of (entities_in d) cs)
 
 -- What a command does.
 unfoldable pub command_run : Environment → Home → Command → ℕ → Store → After
-command_run d at c = run (world_in d) (home_in d at) (entered d at.state at.children.now) (command_of (entities_in d) c)
+command_run d at c = run (within (world_in d) (home_in d at) (entered d at.state at.children.now)) (command_of (entities_in d) c)
 
 -- The effect of a step, behind the raises.
 unfoldable pub taken : Environment → Situation → Step → Store → After
 taken d here k s =
     let at = here.at.now in
-    effect (world_in d) (home_in d at) (entered d at.state at.children.now) (step_of (entities_in d) k)
+    effect (within (world_in d) (home_in d at) (entered d at.state at.children.now)) (step_of (entities_in d) k)
     here.context s (raised_by d here s)
 
 -- A step, and what follows it where it is accepted and where it is refused.
 unfoldable pub attempt_run : Environment → Home → (hang : List ℕ) → Step
     → (accepted refused : List Command) → ℕ → Store → After
 attempt_run d at hang k accepted refused =
-    attempt_then (world_in d) (home_in d at) (entered d at.state at.children.now) (step_of (entities_in d) k)
+    attempt_then (within (world_in d) (home_in d at) (entered d at.state at.children.now)) (step_of (entities_in d) k)
     (listed (flags (entities_in d) hang)) (block_run d at accepted) (block_run d at refused)
 
 -- What an `if` does.

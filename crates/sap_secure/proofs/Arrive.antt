@@ -2,7 +2,7 @@
 use Rattle.sap_lemmas.proofs.Common.{◌≡◌, ℕ, Bool, true, false, ◌||◌, refl, sym, ◌∙◌, subst, nat_eq, inl, inr, ◌⊎◌, if◌then◌else◌, cases_Bool, eqb-true, or_cases, or_left, or_right}
 use Rattle.sap_meaning.proofs.FineLemmas.{inside_among}
 use Rattle.sap_lattice.specs.Order.{Laws}
-use Rattle.sap_meaning.specs.Prelude.{World, is_dynamic, is_state, place, below, go_to, State, state_node, Group, no_node, and_node, own, Store, level, child, put_level, put_child, reset, After, Holds, effect, inside, number_of}
+use Rattle.sap_meaning.specs.Prelude.{within, World, is_dynamic, is_state, place, below, go_to, State, state_node, Group, no_node, and_node, own, Store, level, child, put_level, put_child, reset, After, Holds, effect, inside, number_of}
 use Rattle.sap_meaning.proofs.Slots.{level_put, child_level_put, level_reset, child_reset, held_state}
 use Rattle.sap_meaning.proofs.Trees.{Nth, lands, nth_fine}
 use Rattle.sap_meaning.proofs.Keeps.{holds_level, holds_reset, holds_child}
@@ -134,6 +134,6 @@ module _ (w : World) (laws : Laws w.order) (l : ℕ) (c : Scene w l) (site targe
 
   -- a goto that succeeds in both runs
   pub goto_pair : (pc : ℕ) (enter : ℕ → ℕ → Store → After) (b d s t : Store) → Holds w s → Holds w t → Agree w l s t
-      → Arrived w l c.site.parent c.site.siblings (effect w (spot c.site) enter (go_to site target) pc b s).store (effect w (spot c.site) enter (go_to site target) pc d t).store
+      → Arrived w l c.site.parent c.site.siblings (effect (within w (spot c.site) enter) (go_to site target) pc b s).store (effect (within w (spot c.site) enter) (go_to site target) pc d t).store
   unfolding effect arrived moved
   goto_pair pc enter b d s t hs ht like = arrive pc s t hs ht like

@@ -4,7 +4,7 @@ use Rattle.sap_meaning.proofs.ProgramLemmas.{state_no_value}
 use Rattle.sap_meaning.proofs.FineLemmas.{inside_among}
 use Rattle.sap_lattice.specs.Order.{Laws}
 use Rattle.sap_maps.specs.Term.{Term}
-use Rattle.sap_meaning.specs.Prelude.{World, entity, is_dynamic, is_input, is_register, is_memory, is_state, authority, children, place, Step, assign, write, retag, retag_cell, go_to, fall_to_child, Command, lone, try, if_else, try_then, case_of, Arms, last_arm, and_arm, Block, end_block, command_then, State, state_node, Group, no_node, and_node, LevelTerm, Slot, own, start, next, start_whole, next_whole, Store, owner, home, level, child, put_child, raised, raise, reset, held, After, stay, Holds, value, tag, new_level, told, Home, guard, test, among, step_hangs, touches, raised_alone, effect, attempt, select, branch, does, does_block, does_state, does_child, attempt_then, does_arms, High, seen}
+use Rattle.sap_meaning.specs.Prelude.{within, World, entity, is_dynamic, is_input, is_register, is_memory, is_state, authority, children, place, Step, assign, write, retag, retag_cell, go_to, fall_to_child, Command, lone, try, if_else, try_then, case_of, Arms, last_arm, and_arm, Block, end_block, command_then, State, state_node, Group, no_node, and_node, LevelTerm, Slot, own, start, next, start_whole, next_whole, Store, owner, home, level, child, put_child, raised, raise, reset, held, After, stay, Holds, value, tag, new_level, told, Home, guard, test, among, step_hangs, touches, raised_alone, effect, attempt, select, branch, does, does_block, does_state, does_child, attempt_then, does_arms, High, seen}
 use Rattle.sap_meaning.proofs.Slots.{owner_home, raised_hangs, held_register, held_state}
 use Rattle.sap_meaning.proofs.Trees.{Nth, lands}
 use Rattle.sap_meaning.proofs.Keeps.{OfDynamic, Keeps, branch_all, raise_keeps, holds_raise, does_holds, block_holds, alone_dynamic, child_holds, choose_all, effect_holds}
@@ -124,19 +124,19 @@ module _ (w : World) (laws : Laws w.order) (l : ℕ) where
     pub landing : (target : ℕ) → among i.siblings target ≡ true → place w target < children w i.parent
     landing = lands w i.parent i.siblings i.around.fine i.around.count
 
-    pub keeps : (c : Command) → Proper w i c → (pc : ℕ) → Keeps w (does w At i.enter c pc)
+    pub keeps : (c : Command) → Proper w i c → (pc : ℕ) → Keeps w (does (within w At i.enter) c pc)
     keeps c fine pc = does_holds w At i.siblings landing i.enter holding c (fine_command w i c fine) pc
 
-    pub keeps_block : (b : Block) → ProperBlock w i b → (pc : ℕ) → Keeps w (does_block w At i.enter b pc)
+    pub keeps_block : (b : Block) → ProperBlock w i b → (pc : ℕ) → Keeps w (does_block (within w At i.enter) b pc)
     keeps_block b fine pc = block_holds w At i.siblings landing i.enter holding b (fine_block w i b fine) pc
 
     -- commands before those that touch the cells of a memory leave both parts as they were
     pub even_next : (c : Command) (cs : Block) → Disjoint w i c cs → (pc : ℕ) (s : Store) → Even w (block_concerns w i.state i.kids cs) s
-        → Even w (block_concerns w i.state i.kids cs) (does w At i.enter c pc s).store
+        → Even w (block_concerns w i.state i.kids cs) (does (within w At i.enter) c pc s).store
     even_next c cs apart pc s e z g d h = part z g h d (e z g d h)
       where
         part : (z : Slot) → changing w z ≡ true → block_concerns w i.state i.kids cs (owner z) ≡ true → is_dynamic w (owner z) ≡ false
-            → level w (begun z) s ≡ level w z s → level w (begun z) (does w (spot i) i.enter c pc s).store ≡ level w z (does w (spot i) i.enter c pc s).store
+            → level w (begun z) s ≡ level w z s → level w (begun z) (does (within w (spot i) i.enter) c pc s).store ≡ level w z (does (within w (spot i) i.enter) c pc s).store
         part (next m j) g h d e = let a = apart m g d h in (start_kept w i 0 m g d c a.0 a.1 pc s j).level ∙ e ∙ sym (next_kept w i 0 m g d c a.0 a.1 pc s j).level
         part _ g h d e = refl
 
@@ -183,7 +183,7 @@ module _ (w : World) (laws : Laws w.order) (l : ℕ) where
     -- the effect of a step, from the raised store r
     pub step_confined : (k : Step) → ProperStep w i k → (pc : ℕ) (b r : Store)
         → ((z : Slot) → is_dynamic w (owner z) ≡ false → level w z r ≡ level w z b) → Holds w r
-        → Quiet w l (step_concerns w i.state i.kids k) r → test w At k pc b ≡ true → Up pc k b → Confined w l r (effect w At i.enter k pc b r)
+        → Quiet w l (step_concerns w i.state i.kids k) r → test w At k pc b ≡ true → Up pc k b → Confined w l r (effect (within w At i.enter) k pc b r)
     unfolding effect
     step_confined (assign site x e) fine pc b r kept holds quiet t up =
         let over = agree_over w laws l r (own x) (value w e b) in
@@ -256,7 +256,7 @@ module _ (w : World) (laws : Laws w.order) (l : ℕ) where
     pub attempt_confined : (k : Step) → ProperStep w i k → (hang : ℕ → Bool) (h : ℕ → Store → After) (pc : ℕ) (s : Store) → OfDynamic w hang
         → Holds w s → Quiet w l (step_concerns w i.state i.kids k) (raise w.order hang (guard w At k s) s) → Up pc k s
         → ((q : ℕ) → High w.order l q → Confined w l (raise w.order hang (guard w At k s) s) (h q (raise w.order hang (guard w At k s) s)))
-        → Confined w l (raise w.order hang (guard w At k s) s) (attempt w At i.enter k hang h pc s)
+        → Confined w l (raise w.order hang (guard w At k s) s) (attempt (within w At i.enter) k hang h pc s)
     unfolding attempt
     attempt_confined k fine hang h pc s dyn holds quiet up handler = elim (cases_Bool (test w At k pc s)) [
       | inl t ↦ rw t (step_confined k fine pc s _ (raise_keeps w s hang _ dyn) (holds_raise w s hang _ dyn holds) quiet t up)
@@ -271,14 +271,14 @@ module _ (w : World) (laws : Laws w.order) (l : ℕ) where
         → Quiet w l (step_concerns w i.state i.kids k) (raise w.order hang (guard w At k s) s) → Up pc k s
         → ((q : ℕ) (u : Store) → High w.order l q → Holds w u → Agree w l (raise w.order hang (guard w At k s) s) u → Confined w l u (f q u))
         → ((q : ℕ) → High w.order l q → Confined w l (raise w.order hang (guard w At k s) s) (g q (raise w.order hang (guard w At k s) s)))
-        → Confined w l (raise w.order hang (guard w At k s) s) (attempt_then w At i.enter k hang f g pc s)
+        → Confined w l (raise w.order hang (guard w At k s) s) (attempt_then (within w At i.enter) k hang f g pc s)
     unfolding attempt_then
     attempt_then_confined k fine hang f g pc s dyn holds quiet up accepted refused = elim (cases_Bool (test w At k pc s)) [
       | inl t ↦ rw t (
           let r = raise w.order hang (guard w At k s) s in
           let raised_holds = holds_raise w s hang (guard w At k s) dyn holds in
           let one = step_confined k fine pc s r (raise_keeps w s hang _ dyn) raised_holds quiet t up in
-          let u = (effect w At i.enter k pc s r).store in
+          let u = (effect (within w At i.enter) k pc s r).store in
           let two = accepted (w.order.join pc (guard w At k s)) u (up_join pc k s up)
           (effect_holds w At i.siblings landing i.enter holding k fine.0 pc s r t raised_holds) one.same in
           record { same = agree_next w laws l _ _ _ one.same two.same; quiet = seen_nothing w.order laws l _ _ one.quiet two.quiet })
@@ -316,7 +316,7 @@ module _ (w : World) (laws : Laws w.order) (l : ℕ) where
       unfolding does does_arms does_block
 
       pub does_confined : (c : Command) → Proper w i c → (pc : ℕ) (s : Store) → Holds w s → High w.order l pc
-          → Quiet w l (concerns w i.state i.kids c) s → Confined w l s (does w At i.enter c pc s)
+          → Quiet w l (concerns w i.state i.kids c) s → Confined w l s (does (within w At i.enter) c pc s)
       does_confined (lone k) fine pc s holds high quiet =
           let hang = raised_alone w At k in
           let dyn : OfDynamic w hang = alone_dynamic w At i.siblings landing i.enter holding k in
@@ -330,7 +330,7 @@ module _ (w : World) (laws : Laws w.order) (l : ℕ) where
           let e = agree_raise w laws l s hung (guard w At k s) dyn (hushed (concerns w i.state i.kids (try k hang h)) hung s (concerned w i.state i.kids (try k hang h)) quiet) in
           let r' = raise w.order hung (guard w At k s) s in
           let q = quiet_kept (concerns w i.state i.kids (try k hang h)) hung (guard w At k s) s dyn quiet in
-          confined_from s _ _ e (attempt_confined k fine.0 hung (does_block w At i.enter h) pc s dyn holds
+          confined_from s _ _ e (attempt_confined k fine.0 hung (does_block (within w At i.enter) h) pc s dyn holds
           (quiet_left (step_concerns w i.state i.kids k) (block_concerns w i.state i.kids h) r' q) (inl high)
           (λ r up. block_confined h fine.1 r _ (holds_raise w s hung _ dyn holds) up (quiet_right (step_concerns w i.state i.kids k) (block_concerns w i.state i.kids h) r' q)))
       does_confined (if_else hang e a b) fine pc s holds high quiet =
@@ -340,9 +340,9 @@ module _ (w : World) (laws : Laws w.order) (l : ℕ) where
           (hushed (concerns w i.state i.kids (if_else hang e a b)) hung s (concerned w i.state i.kids (if_else hang e a b)) quiet) in
           let r' = raise w.order hung (tag w e s) s in
           let q = quiet_kept (concerns w i.state i.kids (if_else hang e a b)) hung (tag w e s) s dyn quiet in
-          confined_from s _ _ same (select_confined e hung (branch (does_block w At i.enter a) (does_block w At i.enter b)) pc s (high_left w.order laws l pc _ high)
-          (λ v r up. branch_all (λ z. Confined w l (raise w.order hung (tag w e s) s) z) (does_block w At i.enter a)
-          (does_block w At i.enter b) v r (raise w.order hung (tag w e s) s)
+          confined_from s _ _ same (select_confined e hung (branch (does_block (within w At i.enter) a) (does_block (within w At i.enter) b)) pc s (high_left w.order laws l pc _ high)
+          (λ v r up. branch_all (λ z. Confined w l (raise w.order hung (tag w e s) s) z) (does_block (within w At i.enter) a)
+          (does_block (within w At i.enter) b) v r (raise w.order hung (tag w e s) s)
           (block_confined a fine.1 r _ (holds_raise w s hung _ dyn holds) up (quiet_left (block_concerns w i.state i.kids a) (block_concerns w i.state i.kids b) r' q))
           (block_confined b fine.2 r _ (holds_raise w s hung _ dyn holds) up (quiet_right (block_concerns w i.state i.kids a) (block_concerns w i.state i.kids b) r' q))))
       does_confined (try_then k hang a b) fine pc s holds high quiet =
@@ -356,7 +356,7 @@ module _ (w : World) (laws : Laws w.order) (l : ℕ) where
           let one = block_concerns w i.state i.kids a in
           let other = block_concerns w i.state i.kids b in
           let behind = quiet_right own (λ x. one x || other x) r' q in
-          confined_from s _ _ e (attempt_then_confined k fine.0 hung (does_block w At i.enter a) (does_block w At i.enter b) pc s dyn holds
+          confined_from s _ _ e (attempt_then_confined k fine.0 hung (does_block (within w At i.enter) a) (does_block (within w At i.enter) b) pc s dyn holds
           (quiet_left own (λ x. one x || other x) r' q) (inl high)
           (λ r u up hold same. block_confined a fine.1 r u hold up (λ z g h. hush_next r' u same z g (quiet_left one other r' behind z g h)))
           (λ r up. block_confined b fine.2 r _ (holds_raise w s hung _ dyn holds) up (quiet_right one other r' behind)))
@@ -366,23 +366,23 @@ module _ (w : World) (laws : Laws w.order) (l : ℕ) where
           let same = agree_raise w laws l s hung (tag w e s) dyn
           (hushed (concerns w i.state i.kids (case_of hang e arms)) hung s (concerned w i.state i.kids (case_of hang e arms)) quiet) in
           let q = quiet_kept (concerns w i.state i.kids (case_of hang e arms)) hung (tag w e s) s dyn quiet in
-          confined_from s _ _ same (select_confined e hung (does_arms w At i.enter arms) pc s (high_left w.order laws l pc _ high)
+          confined_from s _ _ same (select_confined e hung (does_arms (within w At i.enter) arms) pc s (high_left w.order laws l pc _ high)
           (λ v r up. arms_confined arms fine.1 v r _ (holds_raise w s hung _ dyn holds) up q))
 
       pub arms_confined : (arms : Arms) → ProperArms w i arms → (v pc : ℕ) (s : Store) → Holds w s → High w.order l pc → Quiet w l (arms_concern w i.state i.kids arms) s
-          → Confined w l s (does_arms w At i.enter arms v pc s)
+          → Confined w l s (does_arms (within w At i.enter) arms v pc s)
       arms_confined (last_arm b) fine v pc s holds high quiet = block_confined b fine pc s holds high quiet
       arms_confined (and_arm cs b arms) fine v pc s holds high quiet =
-          choose_all (λ z. Confined w l s z) cs (does_block w At i.enter b) (does_arms w At i.enter arms) v pc s
+          choose_all (λ z. Confined w l s z) cs (does_block (within w At i.enter) b) (does_arms (within w At i.enter) arms) v pc s
           (block_confined b fine.0 pc s holds high (quiet_left (block_concerns w i.state i.kids b) (arms_concern w i.state i.kids arms) s quiet))
           (arms_confined arms fine.1 v pc s holds high (quiet_right (block_concerns w i.state i.kids b) (arms_concern w i.state i.kids arms) s quiet))
 
       pub block_confined : (b : Block) → ProperBlock w i b → (pc : ℕ) (s : Store) → Holds w s → High w.order l pc
-          → Quiet w l (block_concerns w i.state i.kids b) s → Confined w l s (does_block w At i.enter b pc s)
+          → Quiet w l (block_concerns w i.state i.kids b) s → Confined w l s (does_block (within w At i.enter) b pc s)
       block_confined end_block fine pc s holds high quiet = confined_self s
       block_confined (command_then c cs) fine pc s holds high quiet =
           let f = does_confined c fine.0 pc s holds high (quiet_left (concerns w i.state i.kids c) (block_concerns w i.state i.kids cs) s quiet) in
-          let s' = (does w At i.enter c pc s).store in
+          let s' = (does (within w At i.enter) c pc s).store in
           let g = block_confined cs fine.1 pc s' (keeps c fine.0 pc s holds) high
           (λ z g h. hush_next s s' f.same z g (quiet z g (or_right (concerns w i.state i.kids c (owner z)) _ h))) in
           record { same = agree_next w laws l _ _ _ f.same g.same; quiet = seen_nothing w.order laws l _ _ f.quiet g.quiet }

@@ -2,7 +2,7 @@
 use Rattle.sap_lemmas.proofs.Common.{◌≡◌, ℕ, zero, suc, Bool, true, false, ◌&&◌, ◌||◌, refl, sym, ap, ◌∙◌, nat_eq, inl, inr, cases_Bool, false_from_ne_true, or_cases, or_from, or_left, or_right, neither_left, neither_right, test_of_same}
 use Rattle.sap_meaning.proofs.FineLemmas.{inside_among}
 use Rattle.sap_maps.specs.Term.{Term}
-use Rattle.sap_meaning.specs.Prelude.{World, is_dynamic, is_memory, is_state, place, below, Step, assign, write, retag, retag_cell, go_to, fall_to_child, Command, lone, try, if_else, try_then, case_of, Arms, last_arm, and_arm, Block, end_block, command_then, State, state_node, Group, no_node, and_node, Slot, own, start, next, Store, owner, home, level, child, same_slot, put_number, put_level, put_child, raised, raise, lowered, reset, After, stay, value, tag, Home, guard, test, among, step_hangs, touches, raised_alone, group_assigns, step_retags, retags, block_retags, state_retags, group_retags, effect, attempt, select, branch, does, does_block, does_state, does_child, attempt_then, does_arms, FineTerm, FineStep, FineCommand, FineState, FineGroup, transfers, Open, inside, step_writes, writes, Every, EveryInArms, EveryInBlock, Asks}
+use Rattle.sap_meaning.specs.Prelude.{within, World, is_dynamic, is_memory, is_state, place, below, Step, assign, write, retag, retag_cell, go_to, fall_to_child, Command, lone, try, if_else, try_then, case_of, Arms, last_arm, and_arm, Block, end_block, command_then, State, state_node, Group, no_node, and_node, Slot, own, start, next, Store, owner, home, level, child, same_slot, put_number, put_level, put_child, raised, raise, lowered, reset, After, stay, value, tag, Home, guard, test, among, step_hangs, touches, raised_alone, group_assigns, step_retags, retags, block_retags, state_retags, group_retags, effect, attempt, select, branch, does, does_block, does_state, does_child, attempt_then, does_arms, FineTerm, FineStep, FineCommand, FineState, FineGroup, transfers, Open, inside, step_writes, writes, Every, EveryInArms, EveryInBlock, Asks}
 use Rattle.sap_meaning.proofs.Slots.{slot_same, home_next, home_start, owner_home}
 use Rattle.sap_meaning.proofs.Keeps.{branch_all, choose_all}
 use Rattle.sap_meaning.proofs.WalksLemmas.{none_passes}
@@ -52,16 +52,16 @@ kept_reset w z q s target h k = record {
 
 module _ (w : World) (z : Slot) (q : ℕ) where
   pub kept_attempt : (at : Home) (enter : ℕ → ℕ → Store → After) (k : Step) (hang : ℕ → Bool) (h : ℕ → Store → After) (pc : ℕ) (s : Store)
-      → raised hang (home w z) ≡ false → ((b t : Store) → Kept w z q t (effect w at enter k pc b t).store)
-      → ((p : ℕ) (t : Store) → Kept w z q t (h p t).store) → Kept w z q s (attempt w at enter k hang h pc s).store
+      → raised hang (home w z) ≡ false → ((b t : Store) → Kept w z q t (effect (within w at enter) k pc b t).store)
+      → ((p : ℕ) (t : Store) → Kept w z q t (h p t).store) → Kept w z q s (attempt (within w at enter) k hang h pc s).store
   unfolding attempt
   kept_attempt at enter k hang h pc s off g f =
       let up = kept_raise w z q s hang (guard w at k s) off in
       elim (cases_Bool (test w at k pc s)) [ inl t ↦ rw t (kept_next w z q _ _ _ up (g s _)) | inr t ↦ rw t (kept_next w z q _ _ _ up (f _ _)) ]
 
   pub kept_attempt_then : (at : Home) (enter : ℕ → ℕ → Store → After) (k : Step) (hang : ℕ → Bool) (f g : ℕ → Store → After) (pc : ℕ) (s : Store) → raised hang (home w z) ≡ false
-      → ((b t : Store) → Kept w z q t (effect w at enter k pc b t).store) → ((p : ℕ) (t : Store) → Kept w z q t (f p t).store) → ((p : ℕ) (t : Store) → Kept w z q t (g p t).store)
-      → Kept w z q s (attempt_then w at enter k hang f g pc s).store
+      → ((b t : Store) → Kept w z q t (effect (within w at enter) k pc b t).store) → ((p : ℕ) (t : Store) → Kept w z q t (f p t).store) → ((p : ℕ) (t : Store) → Kept w z q t (g p t).store)
+      → Kept w z q s (attempt_then (within w at enter) k hang f g pc s).store
   unfolding attempt_then
   kept_attempt_then at enter k hang f g pc s off e a b =
       let up = kept_raise w z q s hang (guard w at k s) off in
@@ -90,31 +90,31 @@ module _ (w : World) (z : Slot) (q : ℕ) (at : Home) (enter : ℕ → ℕ → S
 
   -- Where z hangs on no command, commands keep what each of their steps keeps.
   module _ (P : Step → Type 0) (off : (c : Command) → Every (Asks P Any) c → Off c)
-      (step : (k : Step) → P k → (pc : ℕ) (b t : Store) → Kept w z q t (effect w at enter k pc b t).store) where
+      (step : (k : Step) → P k → (pc : ℕ) (b t : Store) → Kept w z q t (effect (within w at enter) k pc b t).store) where
     mutual
       unfolding does does_arms does_block
 
-      pub walk_kept : (c : Command) → Every (Asks P Any) c → (pc : ℕ) (t : Store) → Kept w z q t (does w at enter c pc t).store
+      pub walk_kept : (c : Command) → Every (Asks P Any) c → (pc : ℕ) (t : Store) → Kept w z q t (does (within w at enter) c pc t).store
       walk_kept (lone k) h pc t =
           kept_attempt w z q at enter k (raised_alone w at k) (λ p t. stay t) pc t (off (lone k) h) (λ b r. step k h pc b r) (λ p t. kept_self w z q t)
       walk_kept (try k hang b) h pc t =
-          kept_attempt w z q at enter k (touches w at (try k hang b)) (does_block w at enter b) pc t (off (try k hang b) h)
+          kept_attempt w z q at enter k (touches w at (try k hang b)) (does_block (within w at enter) b) pc t (off (try k hang b) h)
           (λ b' r. step k h.0 pc b' r) (λ p t. walk_list b h.1 p t)
       walk_kept (if_else hang e a b) h pc t =
-          kept_select w z q e (touches w at (if_else hang e a b)) (does_block w at enter a) (does_block w at enter b) pc t (off (if_else hang e a b) h)
+          kept_select w z q e (touches w at (if_else hang e a b)) (does_block (within w at enter) a) (does_block (within w at enter) b) pc t (off (if_else hang e a b) h)
           (λ p t. walk_list a h.1 p t) (λ p t. walk_list b h.2 p t)
       walk_kept (try_then k hang a b) h pc t =
-          kept_attempt_then w z q at enter k (touches w at (try_then k hang a b)) (does_block w at enter a) (does_block w at enter b) pc t
+          kept_attempt_then w z q at enter k (touches w at (try_then k hang a b)) (does_block (within w at enter) a) (does_block (within w at enter) b) pc t
           (off (try_then k hang a b) h) (λ b' r. step k h.0 pc b' r) (λ p t. walk_list a h.1 p t) (λ p t. walk_list b h.2 p t)
       walk_kept (case_of hang e arms) h pc t =
-          kept_pick w z q e (touches w at (case_of hang e arms)) (does_arms w at enter arms) pc t (off (case_of hang e arms) h) (λ v p t. walk_arms arms h.1 v p t)
+          kept_pick w z q e (touches w at (case_of hang e arms)) (does_arms (within w at enter) arms) pc t (off (case_of hang e arms) h) (λ v p t. walk_arms arms h.1 v p t)
 
-      walk_arms : (arms : Arms) → EveryInArms (Asks P Any) arms → (v pc : ℕ) (t : Store) → Kept w z q t (does_arms w at enter arms v pc t).store
+      walk_arms : (arms : Arms) → EveryInArms (Asks P Any) arms → (v pc : ℕ) (t : Store) → Kept w z q t (does_arms (within w at enter) arms v pc t).store
       walk_arms (last_arm b) h v pc t = walk_list b h pc t
       walk_arms (and_arm cs b arms) h v pc t =
-          choose_all (λ r. Kept w z q t r.store) cs (does_block w at enter b) (does_arms w at enter arms) v pc t (walk_list b h.0 pc t) (walk_arms arms h.1 v pc t)
+          choose_all (λ r. Kept w z q t r.store) cs (does_block (within w at enter) b) (does_arms (within w at enter) arms) v pc t (walk_list b h.0 pc t) (walk_arms arms h.1 v pc t)
 
-      pub walk_list : (b : Block) → EveryInBlock (Asks P Any) b → (pc : ℕ) (t : Store) → Kept w z q t (does_block w at enter b pc t).store
+      pub walk_list : (b : Block) → EveryInBlock (Asks P Any) b → (pc : ℕ) (t : Store) → Kept w z q t (does_block (within w at enter) b pc t).store
       walk_list end_block h pc t = kept_self w z q t
       walk_list (command_then c cs) h pc t = kept_next w z q _ _ _ (walk_kept c h.0 pc t) (walk_list cs h.1 pc _)
 
@@ -123,7 +123,7 @@ module _ (w : World) (i : Site w) (q : ℕ) where
   -- the state x, at the place or below it
   module _ (x : ℕ) (s : is_state w x ≡ true) where
     pub open_step : (k : Step) → ProperStep w i k → transfers k ≡ false → step_retags k x ≡ false → (pc : ℕ) (b t : Store)
-        → Kept w (own x) q t (effect w (spot i) i.enter k pc b t).store
+        → Kept w (own x) q t (effect (within w (spot i) i.enter) k pc b t).store
     unfolding effect
     open_step (assign site y e) fine plain un pc b t =
         kept_next w (own x) q _ _ _ (kept_number w (own x) q t (own y) _) (kept_level w (own x) q _ (own y) _ (register_apart w x y s fine.0.0))
@@ -159,7 +159,7 @@ module _ (w : World) (i : Site w) (q : ℕ) where
     open_off (lone k) all = alone_off k all.1.0
     open_off c all = untouched (is_dynamic w x) _ (none_passes OpenStep Any (λ k. step_hangs i.state i.kids k x) (λ k h. step_off k h.0 h.1.0) c all)
 
-    pub open_kept : (c : Command) → Proper w i c → Open c → retags c x ≡ false → (pc : ℕ) (t : Store) → Kept w (own x) q t (does w (spot i) i.enter c pc t).store
+    pub open_kept : (c : Command) → Proper w i c → Open c → retags c x ≡ false → (pc : ℕ) (t : Store) → Kept w (own x) q t (does (within w (spot i) i.enter) c pc t).store
     open_kept c fine plain un pc t =
         walk_kept w (own x) q (spot i) i.enter OpenStep open_off (λ k h pc b r. open_step k h.0 h.1.0 (h.1.1 tt) pc b r) c
         (known_both (ProperStep w i) (λ k. (transfers k ≡ false) × ((u : Unit {0}) → step_retags k x ≡ false)) (FineTerm w) Any c fine
@@ -169,7 +169,7 @@ module _ (w : World) (i : Site w) (q : ℕ) where
   -- a cell z of the enforced memory m
   module _ (m : ℕ) (mem : is_memory w m ≡ true) (d : is_dynamic w m ≡ false) (z : Slot) (cell : (h : ℕ → Bool)
       → raised h (home w z) ≡ false) (at : owner z ≡ m) (unmixed : (x : ℕ) → same_slot (home w z) (own x) ≡ false) where
-    pub cell_step : (k : Step) → transfers k ≡ false → step_writes k m ≡ false → (pc : ℕ) (b t : Store) → Kept w z q t (effect w (spot i) i.enter k pc b t).store
+    pub cell_step : (k : Step) → transfers k ≡ false → step_writes k m ≡ false → (pc : ℕ) (b t : Store) → Kept w z q t (effect (within w (spot i) i.enter) k pc b t).store
     unfolding effect
     cell_step (assign site y e) plain un pc b t = kept_next w z q _ _ _ (kept_number w z q t (own y) _) (kept_level w z q _ (own y) _ (unmixed y))
     cell_step (write site n j e) plain un pc b t = elim (cases_Bool (is_dynamic w n)) [
@@ -194,7 +194,7 @@ module _ (w : World) (i : Site w) (q : ℕ) where
     cell_off (lone k) all = cell (raised_alone w (spot i) k)
     cell_off c all = cell (touches w (spot i) c)
 
-    pub cell_kept : (c : Command) → Open c → writes c m ≡ false → (pc : ℕ) (t : Store) → Kept w z q t (does w (spot i) i.enter c pc t).store
+    pub cell_kept : (c : Command) → Open c → writes c m ≡ false → (pc : ℕ) (t : Store) → Kept w z q t (does (within w (spot i) i.enter) c pc t).store
     cell_kept c plain un pc t =
         walk_kept w z q (spot i) i.enter CellStep cell_off (λ k h pc b r. cell_step k h.0 (h.1 tt) pc b r) c
         (known_both (λ k. transfers k ≡ false) (λ k. (u : Unit {0}) → step_writes k m ≡ false) Any Any c plain
@@ -203,19 +203,19 @@ module _ (w : World) (i : Site w) (q : ℕ) where
 -- the parts of an enforced memory's cell
 module _ (w : World) (i : Site w) (q m : ℕ) (mem : is_memory w m ≡ true) (d : is_dynamic w m ≡ false) (c : Command) (plain : Open c)
     (un : writes c m ≡ false) (pc : ℕ) (t : Store) where
-  pub start_kept : (j : ℕ) → Kept w (start m j) q t (does w (spot i) i.enter c pc t).store
+  pub start_kept : (j : ℕ) → Kept w (start m j) q t (does (within w (spot i) i.enter) c pc t).store
   start_kept j = cell_kept w i q m mem d (start m j) (λ h. rw (home_start w m j d) refl) refl (λ x. rw (home_start w m j d) refl) c plain un pc t
 
-  pub next_kept : (j : ℕ) → Kept w (next m j) q t (does w (spot i) i.enter c pc t).store
+  pub next_kept : (j : ℕ) → Kept w (next m j) q t (does (within w (spot i) i.enter) c pc t).store
   next_kept j = cell_kept w i q m mem d (next m j) (λ h. rw (home_next w m j d) refl) refl (λ x. rw (home_next w m j d) refl) c plain un pc t
 
 -- and under the effect of a step
 module _ (w : World) (i : Site w) (q m : ℕ) (mem : is_memory w m ≡ true) (d : is_dynamic w m ≡ false) (k : Step)
     (plain : transfers k ≡ false) (un : step_writes k m ≡ false) (pc : ℕ) (b t : Store) where
-  pub start_effect : (j : ℕ) → Kept w (start m j) q t (effect w (spot i) i.enter k pc b t).store
+  pub start_effect : (j : ℕ) → Kept w (start m j) q t (effect (within w (spot i) i.enter) k pc b t).store
   start_effect j = cell_step w i q m mem d (start m j) (λ h. rw (home_start w m j d) refl) refl (λ x. rw (home_start w m j d) refl) k plain un pc b t
 
-  pub next_effect : (j : ℕ) → Kept w (next m j) q t (effect w (spot i) i.enter k pc b t).store
+  pub next_effect : (j : ℕ) → Kept w (next m j) q t (effect (within w (spot i) i.enter) k pc b t).store
   next_effect j = cell_step w i q m mem d (next m j) (λ h. rw (home_next w m j d) refl) refl (λ x. rw (home_next w m j d) refl) k plain un pc b t
 
 -- Commands in the bodies below a state e, whose parent is p.
@@ -234,7 +234,7 @@ module _ (w : World) (e p : ℕ) (s : is_state w e ≡ true) where
     abbrev Here : Home
     Here = record { state = c; parent = r; children = k }
 
-    under_step : (j : Step) → FineStep w g k j → step_retags j e ≡ false → (pc : ℕ) (b t : Store) → Kept w (own e) p t (effect w Here enter j pc b t).store
+    under_step : (j : Step) → FineStep w g k j → step_retags j e ≡ false → (pc : ℕ) (b t : Store) → Kept w (own e) p t (effect (within w Here enter) j pc b t).store
     unfolding effect
     under_step (assign site y t') fine un pc b t =
         kept_next w (own e) p _ _ _ (kept_number w (own e) p t (own y) _) (kept_level w (own e) p _ (own y) _ (register_apart w e y s fine.0))
@@ -279,13 +279,13 @@ module _ (w : World) (e p : ℕ) (s : is_state w e ≡ true) where
         untouched (is_dynamic w e) _
         (none_passes UnderStep Any (λ i. step_hangs c k i e) (λ i h. step_unhung w e s c k own_out kids_out free g i h.0) j all)
 
-    pub under_kept : (j : Command) → Every (FineCommand w g k) j → retags j e ≡ false → (pc : ℕ) (t : Store) → Kept w (own e) p t (does w Here enter j pc t).store
+    pub under_kept : (j : Command) → Every (FineCommand w g k) j → retags j e ≡ false → (pc : ℕ) (t : Store) → Kept w (own e) p t (does (within w Here enter) j pc t).store
     under_kept j fine un pc t =
         walk_kept w (own e) p Here enter UnderStep under_off (λ j h pc b r. under_step j h.0 (h.1 tt) pc b r) j
         (known_both (FineStep w g k) (λ j. (u : Unit {0}) → step_retags j e ≡ false) (FineTerm w) Any j fine
         (none_each (λ (u : Unit {0}) (j : Step). step_retags j e) j (λ u. un))) pc t
 
-    under_list : (b : Block) → EveryInBlock (FineCommand w g k) b → block_retags b e ≡ false → (pc : ℕ) (t : Store) → Kept w (own e) p t (does_block w Here enter b pc t).store
+    under_list : (b : Block) → EveryInBlock (FineCommand w g k) b → block_retags b e ≡ false → (pc : ℕ) (t : Store) → Kept w (own e) p t (does_block (within w Here enter) b pc t).store
     under_list b fine un pc t =
         walk_list w (own e) p Here enter UnderStep under_off (λ j h pc b r. under_step j h.0 (h.1 tt) pc b r) b
         (known_in_block (FineStep w g k) (λ j. (u : Unit {0}) → step_retags j e ≡ false) (FineTerm w) Any b fine

@@ -3,7 +3,7 @@ use Rattle.sap_lemmas.proofs.Common.{◌≡◌, ℕ, Bool, true, false, ◌&&◌
 use Rattle.sap_meaning.proofs.FineLemmas.{inside_among}
 use Rattle.sap_lattice.specs.Order.{Laws}
 use Rattle.sap_maps.specs.Term.{Term}
-use Rattle.sap_meaning.specs.Prelude.{World, is_dynamic, Step, go_to, fall_to_child, Command, lone, try, if_else, try_then, case_of, Arms, last_arm, and_arm, Block, end_block, command_then, State, state_node, Group, Slot, own, Store, owner, level, child, raise, After, stay, and_then, Holds, value, tag, Home, child_level, guard, test, among, step_hangs, block_hangs, touches, raised_alone, arms_hang, effect, attempt, select, branch, does, does_block, attempt_then, does_arms, Low, High, FineTerm, transfers, Closes, Final, number_of, ClosingArms, OnceStep, Once, OnceBlock, OnceArms}
+use Rattle.sap_meaning.specs.Prelude.{within, World, is_dynamic, Step, go_to, fall_to_child, Command, lone, try, if_else, try_then, case_of, Arms, last_arm, and_arm, Block, end_block, command_then, State, state_node, Group, Slot, own, Store, owner, level, child, raise, After, stay, and_then, Holds, value, tag, Home, child_level, guard, test, among, step_hangs, block_hangs, touches, raised_alone, arms_hang, effect, attempt, select, branch, does, does_block, attempt_then, does_arms, Low, High, FineTerm, transfers, Closes, Final, number_of, ClosingArms, OnceStep, Once, OnceBlock, OnceArms}
 use Rattle.sap_meaning.proofs.Slots.{child_raise, held_state}
 use Rattle.sap_meaning.proofs.Trees.{Nth, nth_same}
 use Rattle.sap_meaning.proofs.Keeps.{OfDynamic, branch_all, holds_raise, alone_dynamic, choose_all, effect_holds}
@@ -150,7 +150,7 @@ module _ (w : World) (laws : Laws w.order) (l : ℕ) where
         → transfers k ≡ true → ProperStep w c.site k → OnceStep below k → (pc : ℕ) (s t r u : Store)
         → child c.site.state r ≡ child c.site.state s → child c.site.state u ≡ child c.site.state t → Meets h s t → Meets h r u → IsLow pc
         → IsLow (guard w At k s) → ((z : Slot) → Low w.order l (level w z s) → Low w.order l (level w z r))
-        → Both (effect w At c.site.enter k pc s r) (effect w At c.site.enter k pc t u)
+        → Both (effect (within w At c.site.enter) k pc s r) (effect (within w At c.site.enter) k pc t u)
     unfolding effect
     effect_pair h (go_to site target) inn moves fine once pc s t r u cs ct m v lowpc low up =
         let a = goto_pair w laws l c site target fine pc c.site.enter s t r u v.first v.second v.like in
@@ -194,7 +194,7 @@ module _ (w : World) (laws : Laws w.order) (l : ℕ) where
     lower_pair : (h : ℕ → Bool) (k : Step) → ((x : ℕ) → step_concerns w c.site.state c.site.kids k x ≡ true → h x ≡ true)
         → transfers k ≡ true → ProperStep w c.site k → OnceStep below k → (hang : ℕ → Bool) (f : ℕ → Store → After) (pc : ℕ) (s t : Store)
         → OfDynamic w hang → Meets h s t → IsLow pc → ((r : ℕ) (v z : Store) → IsLow r → Meets h v z → Both (f r v) (f r z))
-        → IsLow (guard w At k s) → Both (attempt w At c.site.enter k hang f pc s) (attempt w At c.site.enter k hang f pc t)
+        → IsLow (guard w At k s) → Both (attempt (within w At c.site.enter) k hang f pc s) (attempt (within w At c.site.enter) k hang f pc t)
     unfolding attempt
     lower_pair h k inn moves fine once hang f pc s t dyn m lowpc handler low = elim (cases_Bool (test w At k pc s)) [
       | inl a ↦ rw (a, sym (test_same h k moves fine pc s t m low) ∙ a)
@@ -242,7 +242,7 @@ module _ (w : World) (laws : Laws w.order) (l : ℕ) where
     high_side : (b : Block) → ProperBlock w c.site b → Closes b → (hang : ℕ → Bool) (a : ℕ)
         → ((x : ℕ) → (is_dynamic w x && block_hangs c.site.state c.site.kids b x) ≡ true → hang x ≡ true) → OfDynamic w hang
         → (r : ℕ) (v : Store) → Far r → Far a → Holds w v → Even w (block_concerns w c.site.state c.site.kids b) v
-        → child c.site.parent v ≡ c.site.index → Side (does_block w At c.site.enter b r) (raise w.order hang a v)
+        → child c.site.parent v ≡ c.site.index → Side (does_block (within w At c.site.enter) b r) (raise w.order hang a v)
     high_side b fine closes hang a inn dyn r v far fa hv ev here =
         let q : Quiet w l (block_concerns w c.site.state c.site.kids b) (raise w.order hang a v) =
         quiet_raise w laws l (block_concerns w c.site.state c.site.kids b) hang a v (λ x j. inn x (block_hanging w c.site.state c.site.kids b x j)) dyn fa ev in (
@@ -256,7 +256,7 @@ module _ (w : World) (laws : Laws w.order) (l : ℕ) where
         → OfDynamic w hang → ((x : ℕ) → (is_dynamic w x && step_hangs c.site.state c.site.kids k x) ≡ true → hang x ≡ true) → Meets h s t
         → IsLow pc → ((r : ℕ) (v z : Store) → IsLow r → Meets h v z → Both (f r v) (f r z))
         → ((r a : ℕ) (v : Store) → Far r → Far a → Holds w v → Even w h v → child c.site.parent v ≡ c.site.index
-        → Side (f r) (raise w.order hang a v)) → Both (attempt w At c.site.enter k hang f pc s) (attempt w At c.site.enter k hang f pc t)
+        → Side (f r) (raise w.order hang a v)) → Both (attempt (within w At c.site.enter) k hang f pc s) (attempt (within w At c.site.enter) k hang f pc t)
     attempt_pair h k zin moves fine once hang f pc s t dyn inn m lowpc handler side' = elim (cases_Bool (w.order.le (guard w At k s) l)) [
       | inl low ↦ lower_pair h k zin moves fine once hang f pc s t dyn m lowpc handler low
       | inr high ↦ (
@@ -268,7 +268,7 @@ module _ (w : World) (laws : Laws w.order) (l : ℕ) where
     ]
       where
         side : (v : Store) → Far (guard w At k v) → Holds w v → Even w h v → child c.site.parent v ≡ c.site.index
-            → Side (λ r. attempt w At c.site.enter k hang f pc v) (raise w.order hang (guard w At k v) v)
+            → Side (λ r. attempt (within w At c.site.enter) k hang f pc v) (raise w.order hang (guard w At k v) v)
         side v high holds ev here =
             let q : Quiet w l (step_concerns w c.site.state c.site.kids k) (raise w.order hang (guard w At k v) v) =
             quiet_raise w laws l (step_concerns w c.site.state c.site.kids k) hang _ v
@@ -302,12 +302,12 @@ module _ (w : World) (laws : Laws w.order) (l : ℕ) where
 
     arms_side : (arms : Arms) → ProperArms w c.site arms → ClosingArms arms → (hang : ℕ → Bool) (a : ℕ)
         → ((x : ℕ) → (is_dynamic w x && arms_hang c.site.state c.site.kids arms x) ≡ true → hang x ≡ true) → OfDynamic w hang → (i r : ℕ) (v : Store) → Far r → Far a → Holds w v
-        → Even w (arms_concern w c.site.state c.site.kids arms) v → child c.site.parent v ≡ c.site.index → Side (does_arms w At c.site.enter arms i r) (raise w.order hang a v)
+        → Even w (arms_concern w c.site.state c.site.kids arms) v → child c.site.parent v ≡ c.site.index → Side (does_arms (within w At c.site.enter) arms i r) (raise w.order hang a v)
     unfolding does_arms
     arms_side (last_arm b) fine closes hang a inn dyn i r v far fa hv ev here = high_side b fine closes hang a inn dyn r v far fa hv ev here
     arms_side (and_arm cs b arms) fine closes hang a inn dyn i r v far fa hv ev here =
         choose_all (λ z. Confined w l (raise w.order hang a v) z × (Path z.store ≡ Path (raise w.order hang a v))) cs
-        (does_block w At c.site.enter b) (does_arms w At c.site.enter arms) i r (raise w.order hang a v)
+        (does_block (within w At c.site.enter) b) (does_arms (within w At c.site.enter) arms) i r (raise w.order hang a v)
         (high_side b fine.0 closes.0 hang a (λ x j. inn x
         (touched_in (is_dynamic w x) _ _ (λ i. or_left _ (arms_hang c.site.state c.site.kids arms x) i) j)) dyn r v far fa hv
         (λ z g d i. ev z g d (or_left _ (arms_concern w c.site.state c.site.kids arms (owner z)) i)) here)
@@ -318,9 +318,9 @@ module _ (w : World) (laws : Laws w.order) (l : ℕ) where
     -- a step with an accepted part, under a low guard: the stores behind the effect meet as well
     lower_then : (h fh : ℕ → Bool) (k : Step) → ((x : ℕ) → fh x ≡ true → h x ≡ true) → transfers k ≡ false → ProperStep w c.site k
         → (hang : ℕ → Bool) (f g : ℕ → Store → After) (pc : ℕ) (s t : Store) → OfDynamic w hang → Meets h s t → IsLow pc
-        → ((b r : Store) → Even w fh r → Even w fh (effect w At c.site.enter k pc b r).store)
+        → ((b r : Store) → Even w fh r → Even w fh (effect (within w At c.site.enter) k pc b r).store)
         → ((r : ℕ) (v z : Store) → IsLow r → Meets fh v z → Both (f r v) (f r z)) → ((r : ℕ) (v z : Store) → IsLow r → Meets h v z → Both (g r v) (g r z)) → IsLow (guard w At k s)
-        → Both (attempt_then w At c.site.enter k hang f g pc s) (attempt_then w At c.site.enter k hang f g pc t)
+        → Both (attempt_then (within w At c.site.enter) k hang f g pc s) (attempt_then (within w At c.site.enter) k hang f g pc t)
     unfolding attempt_then
     lower_then h fh k inn plain fine hang f g pc s t dyn m lowpc keep accepted handler low = elim (cases_Bool (test w At k pc s)) [
       | inl a ↦ rw (
@@ -351,12 +351,12 @@ module _ (w : World) (laws : Laws w.order) (l : ℕ) where
         ) low
 
         behind : test w At k pc s ≡ true → (v : ℕ) → guard w At k s ≡ v
-            → Both (and_then (effect w At c.site.enter k pc s r) (f (w.order.join pc (guard w At k s)))) (and_then (effect w At c.site.enter k pc t u) (f (w.order.join pc v)))
+            → Both (and_then (effect (within w At c.site.enter) k pc s r) (f (w.order.join pc (guard w At k s)))) (and_then (effect (within w At c.site.enter) k pc t u) (f (w.order.join pc v)))
         behind a v e = rw (← e) (
             let o = effect_low w laws l c.site c.entering c.holding k fine plain pc s t r u lowpc m.like meet.like low a in
             let b = sym (test_low w laws l c.site c.entering c.holding k fine plain pc s t m.like low) ∙ a in
-            let one = (effect w At c.site.enter k pc s r).store in
-            let other = (effect w At c.site.enter k pc t u).store in
+            let one = (effect (within w At c.site.enter) k pc s r).store in
+            let other = (effect (within w At c.site.enter) k pc t u).store in
             let seat1 = step_clear w laws l c k fine plain pc s r c.site.parent c.site.state (own_mine w laws l c) in
             let seat2 = step_clear w laws l c k fine plain pc t u c.site.parent c.site.state (own_mine w laws l c) in
             let next : Meets fh one other = record {
@@ -382,7 +382,7 @@ module _ (w : World) (laws : Laws w.order) (l : ℕ) where
     -- the same under a high guard, from the raised store
     then_side : (k : Step) (hang : List Bool) (a b : Block) → Proper w c.site (try_then k hang a b) → Final (try_then k hang a b)
         → (pc : ℕ) (v : Store) → Far (guard w At k v) → Holds w v → Even w (concerns w c.site.state c.site.kids (try_then k hang a b)) v → child c.site.parent v ≡ c.site.index
-        → Side (λ r. does w At c.site.enter (try_then k hang a b) pc v) (raise w.order (touches w At (try_then k hang a b)) (guard w At k v) v)
+        → Side (λ r. does (within w At c.site.enter) (try_then k hang a b) pc v) (raise w.order (touches w At (try_then k hang a b)) (guard w At k v) v)
     unfolding does
     then_side k hang a b fine final pc v high hv ev here =
         let hung = touches w At (try_then k hang a b) in
@@ -400,10 +400,10 @@ module _ (w : World) (laws : Laws w.order) (l : ℕ) where
         let quiet_a = quiet_left w laws l c.site c.entering c.holding one other r behind in
         let quiet_b = quiet_right w laws l c.site c.entering c.holding one other r behind in
         let hr = holds_raise w v hung (guard w At k v) dyn hv in (
-          attempt_then_confined w laws l c.site c.entering c.holding k fine.0 hung (does_block w At c.site.enter a) (does_block w At c.site.enter b) pc v dyn hv first (inr high)
+          attempt_then_confined w laws l c.site c.entering c.holding k fine.0 hung (does_block (within w At c.site.enter) a) (does_block (within w At c.site.enter) b) pc v dyn hv first (inr high)
               (λ z u up hold same. block_confined w laws l c.site c.entering c.holding a fine.1 z u hold up (λ y g h. hush_next w laws l r u same y g (quiet_a y g h)))
               (λ z up. block_confined w laws l c.site c.entering c.holding b fine.2 z r hr up quiet_b),
-          attempt_then_still w laws l c k final.0 fine.0 hung (does_block w At c.site.enter a) (does_block w At c.site.enter b) pc v dyn hv first here (inr high)
+          attempt_then_still w laws l c k final.0 fine.0 hung (does_block (within w At c.site.enter) a) (does_block (within w At c.site.enter) b) pc v dyn hv first here (inr high)
               (λ z u up hold same here'' kept. block_still w laws l c a fine.1 final.1 z u hold up (λ y g h. hush_next w laws l r u same y g (quiet_a y g h)) here''
               (cover_kept w laws l c.site _ r u (λ x m. kept x m)
               (cover_part w laws l _ _ _ _ r (λ x. touched_in (is_dynamic w x)
@@ -417,7 +417,7 @@ module _ (w : World) (laws : Laws w.order) (l : ℕ) where
       unfolding does does_arms does_block
 
       pub does_pair : (d : Command) → Proper w c.site d → Once c.site.kids below d → Final d → (pc : ℕ) (s t : Store) → IsLow pc
-          → Meets (concerns w c.site.state c.site.kids d) s t → Both (does w At c.site.enter d pc s) (does w At c.site.enter d pc t)
+          → Meets (concerns w c.site.state c.site.kids d) s t → Both (does (within w At c.site.enter) d pc s) (does (within w At c.site.enter) d pc t)
       does_pair (lone k) fine once final pc s t low m =
           let hang = raised_alone w At k in
           let dyn : OfDynamic w hang = alone_dynamic w At c.site.siblings (landing w laws l c.site c.entering c.holding) c.site.enter c.holding k in
@@ -428,7 +428,7 @@ module _ (w : World) (laws : Laws w.order) (l : ℕ) where
           let hung = touches w At (try k hang h) in
           let dyn : OfDynamic w hung = touches_dynamic w laws l c.site c.entering c.holding (try k hang h) in
           attempt_pair (concerns w c.site.state c.site.kids (try k hang h)) k
-          (λ x i. or_left _ (block_concerns w c.site.state c.site.kids h x) i) final.0 fine.0 once.0 hung (does_block w At c.site.enter h) pc s t dyn
+          (λ x i. or_left _ (block_concerns w c.site.state c.site.kids h x) i) final.0 fine.0 once.0 hung (does_block (within w At c.site.enter) h) pc s t dyn
           (λ x. touched_in (is_dynamic w x) _ _ (λ i. or_left _ (block_hangs c.site.state c.site.kids h x) i)) m low
           (λ r v z lr mv. block_pair h fine.1 once.1 final.1 r v z lr
           (meets_part (concerns w c.site.state c.site.kids (try k hang h)) (block_concerns w c.site.state c.site.kids h) v z
@@ -440,8 +440,8 @@ module _ (w : World) (laws : Laws w.order) (l : ℕ) where
           let hung = touches w At (if_else hang e a b) in
           let dyn : OfDynamic w hung = touches_dynamic w laws l c.site c.entering c.holding (if_else hang e a b) in
           select_pair (concerns w c.site.state c.site.kids (if_else hang e a b)) e fine.0 hung
-          (branch (does_block w At c.site.enter a) (does_block w At c.site.enter b)) pc s t dyn m low
-          (λ i r v z lr mv. branch_both (λ x y. Both x y) (does_block w At c.site.enter a) (does_block w At c.site.enter b) i r v z
+          (branch (does_block (within w At c.site.enter) a) (does_block (within w At c.site.enter) b)) pc s t dyn m low
+          (λ i r v z lr mv. branch_both (λ x y. Both x y) (does_block (within w At c.site.enter) a) (does_block (within w At c.site.enter) b) i r v z
           (block_pair a fine.1 once.0 final.0 r v z lr
           (meets_part (concerns w c.site.state c.site.kids (if_else hang e a b)) (block_concerns w c.site.state c.site.kids a) v z
           (λ x i. or_left _ (block_concerns w c.site.state c.site.kids b x) i) mv))
@@ -449,7 +449,7 @@ module _ (w : World) (laws : Laws w.order) (l : ℕ) where
           (meets_part (concerns w c.site.state c.site.kids (if_else hang e a b)) (block_concerns w c.site.state c.site.kids b) v z
           (λ x i. or_right (block_concerns w c.site.state c.site.kids a x) _ i) mv)))
           (λ i r q v far fa hv ev here. branch_all (λ z. Confined w l (raise w.order hung q v) z
-          × (Path z.store ≡ Path (raise w.order hung q v))) (does_block w At c.site.enter a) (does_block w At c.site.enter b) i r (raise w.order hung q v)
+          × (Path z.store ≡ Path (raise w.order hung q v))) (does_block (within w At c.site.enter) a) (does_block (within w At c.site.enter) b) i r (raise w.order hung q v)
           (high_side a fine.1 final.0 hung q (λ x. touched_in (is_dynamic w x) _ _ (λ i. or_left _ (block_hangs c.site.state c.site.kids b x) i))
           dyn r v far fa hv (λ z g d i. ev z g d (or_left _ (block_concerns w c.site.state c.site.kids b (owner z)) i)) here)
           (high_side b fine.2 final.1 hung q (λ x. touched_in (is_dynamic w x)
@@ -464,7 +464,7 @@ module _ (w : World) (laws : Laws w.order) (l : ℕ) where
           let other = block_concerns w c.site.state c.site.kids b in
           elim (cases_Bool (w.order.le (guard w At k s) l)) [
             | inl g ↦ lower_then all one k (λ x i. or_right (mine_now x) _ (or_left _ (other x) i)) final.0 fine.0 hung
-                (does_block w At c.site.enter a) (does_block w At c.site.enter b) pc s t dyn m low
+                (does_block (within w At c.site.enter) a) (does_block (within w At c.site.enter) b) pc s t dyn m low
                 (λ v r e. even_step w laws l c.site c.entering c.holding k final.0 one (apart_step w laws l c.site c.entering c.holding k a fine.1 final.0 once.3) pc v r e)
                 (λ r v z lr mv. block_pair a fine.1 once.1 final.1 r v z lr mv)
                 (λ r v z lr mv. block_pair b fine.2 once.2 final.2 r v z lr (meets_part all other v z (λ x i. or_right (mine_now x) _ (or_right (one x) _ i)) mv)) g
@@ -478,25 +478,25 @@ module _ (w : World) (laws : Laws w.order) (l : ℕ) where
       does_pair (case_of hang e arms) fine once final pc s t low m =
           let hung = touches w At (case_of hang e arms) in
           let dyn : OfDynamic w hung = touches_dynamic w laws l c.site c.entering c.holding (case_of hang e arms) in
-          select_pair (arms_concern w c.site.state c.site.kids arms) e fine.0 hung (does_arms w At c.site.enter arms) pc s t dyn
+          select_pair (arms_concern w c.site.state c.site.kids arms) e fine.0 hung (does_arms (within w At c.site.enter) arms) pc s t dyn
           (meets_part (concerns w c.site.state c.site.kids (case_of hang e arms)) (arms_concern w c.site.state c.site.kids arms) s t (λ x i. i) m) low
           (λ i r v z lr mv. arms_pair arms fine.1 once final i r v z lr mv)
           (λ i r q v far fa hv ev here. arms_side arms fine.1 final hung q (λ x j. j) dyn i r v far fa hv ev here)
 
       arms_pair : (arms : Arms) → ProperArms w c.site arms → OnceArms c.site.kids below arms → ClosingArms arms → (v pc : ℕ) (s t : Store)
-          → IsLow pc → Meets (arms_concern w c.site.state c.site.kids arms) s t → Both (does_arms w At c.site.enter arms v pc s) (does_arms w At c.site.enter arms v pc t)
+          → IsLow pc → Meets (arms_concern w c.site.state c.site.kids arms) s t → Both (does_arms (within w At c.site.enter) arms v pc s) (does_arms (within w At c.site.enter) arms v pc t)
       arms_pair (last_arm b) fine once closes v pc s t low m =
           block_pair b fine once closes pc s t low
           (meets_part (arms_concern w c.site.state c.site.kids (last_arm b)) (block_concerns w c.site.state c.site.kids b) s t (λ x i. i) m)
       arms_pair (and_arm cs b arms) fine once closes v pc s t low m =
           let here = block_concerns w c.site.state c.site.kids b in
           let rest = arms_concern w c.site.state c.site.kids arms in
-          choose_both (λ x y. Both x y) cs (does_block w At c.site.enter b) (does_arms w At c.site.enter arms) v pc s t
+          choose_both (λ x y. Both x y) cs (does_block (within w At c.site.enter) b) (does_arms (within w At c.site.enter) arms) v pc s t
           (block_pair b fine.0 once.0 closes.0 pc s t low (meets_part (arms_concern w c.site.state c.site.kids (and_arm cs b arms)) here s t (λ x i. or_left _ (rest x) i) m))
           (arms_pair arms fine.1 once.1 closes.1 v pc s t low (meets_part (arms_concern w c.site.state c.site.kids (and_arm cs b arms)) rest s t (λ x i. or_right (here x) _ i) m))
 
       pub block_pair : (b : Block) → ProperBlock w c.site b → OnceBlock c.site.kids below b → Closes b → (pc : ℕ) (s t : Store) → IsLow pc
-          → Meets (block_concerns w c.site.state c.site.kids b) s t → Both (does_block w At c.site.enter b pc s) (does_block w At c.site.enter b pc t)
+          → Meets (block_concerns w c.site.state c.site.kids b) s t → Both (does_block (within w At c.site.enter) b pc s) (does_block (within w At c.site.enter) b pc t)
       block_pair end_block fine once closes pc s t low m = absurd closes
       block_pair (command_then d end_block) fine once closes pc s t low m =
           let f = does_pair d fine.0 once.0 closes pc s t low
@@ -509,7 +509,7 @@ module _ (w : World) (laws : Laws w.order) (l : ℕ) where
           (λ z g e i. m.even2 z g e (or_left _ (block_concerns w c.site.state c.site.kids (command_then j js) (owner z)) i)) in
           let a = clear_own w laws l c d fine.0 closes.0 pc s in
           let b = clear_own w laws l c d fine.0 closes.0 pc t in
-          let next : Meets (block_concerns w c.site.state c.site.kids (command_then j js)) (does w At c.site.enter d pc s).store (does w At c.site.enter d pc t).store = record {
+          let next : Meets (block_concerns w c.site.state c.site.kids (command_then j js)) (does (within w At c.site.enter) d pc s).store (does (within w At c.site.enter) d pc t).store = record {
             first = keeps w laws l c.site c.entering c.holding d fine.0 pc s m.first;
             second = keeps w laws l c.site c.entering c.holding d fine.0 pc t m.second;
             like = f.same;
@@ -522,5 +522,5 @@ module _ (w : World) (laws : Laws w.order) (l : ℕ) where
             even2 = even_next w laws l c.site c.entering c.holding d (command_then j js) apart pc t
                 (λ z g e i. m.even2 z g e (or_right (concerns w c.site.state c.site.kids d (owner z)) _ i));
           } in
-          let g = block_pair (command_then j js) fine.1 once.1 closes.1 pc (does w At c.site.enter d pc s).store (does w At c.site.enter d pc t).store low next in
+          let g = block_pair (command_then j js) fine.1 once.1 closes.1 pc (does (within w At c.site.enter) d pc s).store (does (within w At c.site.enter) d pc t).store low next in
           record { twin = record { same = g.twin.same; refused = seen_parts w.order laws l _ _ _ _ f.refused g.twin.refused }; path = g.path }

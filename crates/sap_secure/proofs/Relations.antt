@@ -115,16 +115,16 @@ module _ (w : World) (laws : Laws w.order) (l : ℕ) where
   path_itself (x ∷ xs) = elim (cases_Bool (w.order.le x.tag l)) [ inl low ↦ inl ((refl, path_itself xs), refl, low) | inr high ↦ inr (high, high) ]
 
   -- a cell of a part of a dynamic memory
-  cell_alike : (cell : ℕ → Slot) (whole : Slot) (s t : Store) → ((i : ℕ) → home w (cell i) ≡ home w whole) → PartsAlike w l cell whole s t
+  cell_alike : (cell : ℕ → Slot) (whole : Slot) (s t : Store) → ((i : ℕ) → home w (cell i) ≡ home w whole) → PartsAlike w l (record { cell = cell; whole = whole }) s t
       → (i : ℕ) → Same w.order l (number (cell i) s) (level w (cell i) s) (number (cell i) t) (level w (cell i) t)
   cell_alike cell whole s t at a i = subst (λ z. Same w.order l (number (cell i) s) (s.level z) (number (cell i) t) (t.level z)) (sym (at i)) (go a)
     where
-      go : PartsAlike w l cell whole s t → Same w.order l (number (cell i) s) (level w whole s) (number (cell i) t) (level w whole t)
+      go : PartsAlike w l (record { cell = cell; whole = whole }) s t → Same w.order l (number (cell i) s) (level w whole s) (number (cell i) t) (level w whole t)
       go (inl x) = record { low = ap (λ v. w.order.le v l) x.1; number = λ h. x.0 i; level = λ h. x.1 }
       go (inr x) = same_high w.order laws l _ _ _ _ x.0 x.1
 
   part_alike : (cell : ℕ → Slot) (whole : Slot) (s t : Store) → ((i : ℕ) → home w (cell i) ≡ home w whole)
-      → ((i : ℕ) → Same w.order l (number (cell i) s) (level w (cell i) s) (number (cell i) t) (level w (cell i) t)) → PartsAlike w l cell whole s t
+      → ((i : ℕ) → Same w.order l (number (cell i) s) (level w (cell i) s) (number (cell i) t) (level w (cell i) t)) → PartsAlike w l (record { cell = cell; whole = whole }) s t
   part_alike cell whole s t at f = elim (cases_Bool (w.order.le (level w whole s) l)) [
     | inl h ↦ inl (λ i. (g i).number h, (g 0).level h, h)
     | inr h ↦ inr (h, sym (g 0).low ∙ h)

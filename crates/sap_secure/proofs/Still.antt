@@ -3,7 +3,7 @@ use Rattle.sap_lemmas.proofs.Common.{◌≡◌, ℕ, zero, suc, ◌<◌, Bool, t
 use Rattle.sap_meaning.proofs.FineLemmas.{inside_among}
 use Rattle.sap_lattice.specs.Order.{Laws}
 use Rattle.sap_maps.specs.Term.{Term}
-use Rattle.sap_meaning.specs.Prelude.{World, is_dynamic, is_state, children, place, last, below, Step, go_to, fall_to_child, Command, lone, try, if_else, try_then, case_of, Arms, last_arm, and_arm, Block, end_block, command_then, State, state_node, Group, no_node, and_node, Slot, own, Store, owner, level, child, put_level, put_child, raise, reset, After, stay, Holds, tag, Home, child_level, opens, child_opens, guard, test, among, step_hangs, hangs, block_hangs, touches, raised_alone, arms_hang, effect, attempt, select, branch, does, does_block, attempt_then, does_arms, Low, High, transfers, Open, Closes, Final, number_of, ClosingArms}
+use Rattle.sap_meaning.specs.Prelude.{within, World, is_dynamic, is_state, children, place, last, below, Step, go_to, fall_to_child, Command, lone, try, if_else, try_then, case_of, Arms, last_arm, and_arm, Block, end_block, command_then, State, state_node, Group, no_node, and_node, Slot, own, Store, owner, level, child, put_level, put_child, raise, reset, After, stay, Holds, tag, Home, child_level, opens, child_opens, guard, test, among, step_hangs, hangs, block_hangs, touches, raised_alone, arms_hang, effect, attempt, select, branch, does, does_block, attempt_then, does_arms, Low, High, transfers, Open, Closes, Final, number_of, ClosingArms}
 use Rattle.sap_meaning.proofs.Slots.{child_raise, child_put, child_reset, level_put, child_level_put, level_child, held_state}
 use Rattle.sap_meaning.proofs.Trees.{Nth, nth_of, placed}
 use Rattle.sap_meaning.proofs.Keeps.{OfDynamic, Keeps, branch_all, raise_keeps, reset_keeps, holds_raise, alone_dynamic, choose_all, effect_holds}
@@ -139,7 +139,7 @@ module _ (w : World) (laws : Laws w.order) (l : ℕ) where
 
     pub goto_lands : (site target : ℕ) → ProperStep w c.site (go_to site target) → (pc : ℕ) (b r : Store) → Holds w r
         → ((z : Slot) → is_dynamic w (owner z) ≡ false → level w z r ≡ level w z b) → test w At (go_to site target) pc b ≡ true
-        → UpAt pc (go_to site target) b → PathOf (effect w At c.site.enter (go_to site target) pc b r).store ≡ []
+        → UpAt pc (go_to site target) b → PathOf (effect (within w At c.site.enter) (go_to site target) pc b r).store ≡ []
     unfolding effect
     goto_lands site target fine pc b r holds same t up =
         let a = target_of site target fine in
@@ -179,7 +179,7 @@ module _ (w : World) (laws : Laws w.order) (l : ℕ) where
         → child c.site.state r ≡ child c.site.state b → ((z : Slot) → is_dynamic w (owner z) ≡ false → level w z r ≡ level w z b)
         → Holds w r → Quiet w l (step_concerns w c.site.state c.site.kids k) r → Here r
         → Mine (λ x. is_dynamic w x && step_hangs c.site.state c.site.kids k x) r → test w At k pc b ≡ true → UpAt pc k b
-        → PathOf (effect w At c.site.enter k pc b r).store ≡ PathOf r
+        → PathOf (effect (within w At c.site.enter) k pc b r).store ≡ PathOf r
     unfolding effect
     step_still (go_to site target) moves fine pc b r seats same holds quiet here cover t up =
         goto_lands site target fine pc b r holds same t up ∙ sym (high_path r here (goto_source site target pc b r same cover t up))
@@ -269,7 +269,7 @@ module _ (w : World) (laws : Laws w.order) (l : ℕ) where
         → Quiet w l (step_concerns w c.site.state c.site.kids k) (raise w.order hang (guard w At k s) s) → Here s
         → Mine (λ x. is_dynamic w x && step_hangs c.site.state c.site.kids k x) (raise w.order hang (guard w At k s) s) → UpAt pc k s
         → ((r : ℕ) → High w.order l r → PathOf (h r (raise w.order hang (guard w At k s) s)).store ≡ PathOf (raise w.order hang (guard w At k s) s))
-        → PathOf (attempt w At c.site.enter k hang h pc s).store ≡ PathOf (raise w.order hang (guard w At k s) s)
+        → PathOf (attempt (within w At c.site.enter) k hang h pc s).store ≡ PathOf (raise w.order hang (guard w At k s) s)
     unfolding attempt
     attempt_still k moves fine hang h pc s dyn holds quiet here cover up handler = elim (cases_Bool (test w At k pc s)) [
       | inl t ↦ rw t (step_still k moves fine pc s (raise w.order hang (guard w At k s) s)
@@ -286,31 +286,31 @@ module _ (w : World) (laws : Laws w.order) (l : ℕ) where
     select_still e hang pick pc s up f = f _ _ up
 
     -- an open command leaves the path alone
-    pub clear : (d : Command) → Proper w c.site d → Open d → (pc : ℕ) (s : Store) (q x : ℕ) → mine c.site x ≡ true → Kept w (own x) q s (does w At c.site.enter d pc s).store
+    pub clear : (d : Command) → Proper w c.site d → Open d → (pc : ℕ) (s : Store) (q x : ℕ) → mine c.site x ≡ true → Kept w (own x) q s (does (within w At c.site.enter) d pc s).store
     clear d fine plain pc s q x m = open_kept w c.site q x (mine_state w c.site x m) d fine plain (unmarked w c.site d fine x m) pc s
 
     pub own_mine : mine c.site c.site.state ≡ true
     own_mine = or_left _ _ (test_of_same c.site.state)
 
-    pub clear_own : (d : Command) → Proper w c.site d → Open d → (pc : ℕ) (s : Store) → Kept w (own c.site.state) c.site.parent s (does w At c.site.enter d pc s).store
+    pub clear_own : (d : Command) → Proper w c.site d → Open d → (pc : ℕ) (s : Store) → Kept w (own c.site.state) c.site.parent s (does (within w At c.site.enter) d pc s).store
     clear_own d fine plain pc s = clear d fine plain pc s c.site.parent c.site.state own_mine
 
-    pub clear_path : (d : Command) → Proper w c.site d → Open d → (pc : ℕ) (s : Store) → Here s → PathOf (does w At c.site.enter d pc s).store ≡ PathOf s
+    pub clear_path : (d : Command) → Proper w c.site d → Open d → (pc : ℕ) (s : Store) → Here s → PathOf (does (within w At c.site.enter) d pc s).store ≡ PathOf s
     clear_path d fine plain pc s here =
         let k = clear_own d fine plain pc s in
         let e = clear d fine plain pc s c.site.state c.site.state own_mine in
-        like_path (does w At c.site.enter d pc s).store s (k.seat ∙ here) here k.level
-        (rw e.seat (from_same w l c.site.kids (child c.site.state s) (child c.site.state s) (does w At c.site.enter d pc s).store s
+        like_path (does (within w At c.site.enter) d pc s).store s (k.seat ∙ here) here k.level
+        (rw e.seat (from_same w l c.site.kids (child c.site.state s) (child c.site.state s) (does (within w At c.site.enter) d pc s).store s
         (λ x i. let z = clear d fine plain pc s x x (or_right (nat_eq x c.site.state) _ i) in (z.level, z.seat))))
 
     -- nor does the effect of an open step
     pub step_clear : (k : Step) → ProperStep w c.site k → transfers k ≡ false → (pc : ℕ) (b r : Store) (q x : ℕ) → mine c.site x ≡ true
-        → Kept w (own x) q r (effect w At c.site.enter k pc b r).store
+        → Kept w (own x) q r (effect (within w At c.site.enter) k pc b r).store
     step_clear k fine plain pc b r q x m = open_step w c.site q x (mine_state w c.site x m) k fine plain (fine.1 x m) pc b r
 
-    pub step_path : (k : Step) → ProperStep w c.site k → transfers k ≡ false → (pc : ℕ) (b r : Store) → Here r → PathOf (effect w At c.site.enter k pc b r).store ≡ PathOf r
+    pub step_path : (k : Step) → ProperStep w c.site k → transfers k ≡ false → (pc : ℕ) (b r : Store) → Here r → PathOf (effect (within w At c.site.enter) k pc b r).store ≡ PathOf r
     step_path k fine plain pc b r here =
-        let u = (effect w At c.site.enter k pc b r).store in
+        let u = (effect (within w At c.site.enter) k pc b r).store in
         let k' = step_clear k fine plain pc b r c.site.parent c.site.state own_mine in
         let e = step_clear k fine plain pc b r c.site.state c.site.state own_mine in
         like_path u r (k'.seat ∙ here) here k'.level
@@ -323,7 +323,7 @@ module _ (w : World) (laws : Laws w.order) (l : ℕ) where
         → ((r : ℕ) (u : Store) → High w.order l r → Holds w u → Agree w l (raise w.order hang (guard w At k s) s) u → Here u
         → ((x : ℕ) → mine c.site x ≡ true → Kept w (own x) c.site.state (raise w.order hang (guard w At k s) s) u) → PathOf (f r u).store ≡ PathOf u)
         → ((r : ℕ) → High w.order l r → PathOf (g r (raise w.order hang (guard w At k s) s)).store ≡ PathOf (raise w.order hang (guard w At k s) s))
-        → PathOf (attempt_then w At c.site.enter k hang f g pc s).store ≡ PathOf (raise w.order hang (guard w At k s) s)
+        → PathOf (attempt_then (within w At c.site.enter) k hang f g pc s).store ≡ PathOf (raise w.order hang (guard w At k s) s)
     unfolding attempt_then
     attempt_then_still k plain fine hang f g pc s dyn holds quiet here up accepted refused =
         let r = raise w.order hang (guard w At k s) s in
@@ -331,7 +331,7 @@ module _ (w : World) (laws : Laws w.order) (l : ℕ) where
         let held_up = holds_raise w s hang (guard w At k s) dyn holds in
         elim (cases_Bool (test w At k pc s)) [
           | inl t ↦ rw t (
-              let u = (effect w At c.site.enter k pc s r).store in
+              let u = (effect (within w At c.site.enter) k pc s r).store in
               let one = step_confined w laws l c.site c.entering c.holding k fine pc s r (raise_keeps w s hang _ dyn) held_up quiet t up in
               let seat = (step_clear k fine plain pc s r c.site.parent c.site.state own_mine).seat in
               accepted (w.order.join pc (guard w At k s)) u (up_join w laws l c.site c.entering c.holding pc k s up)
@@ -345,7 +345,7 @@ module _ (w : World) (laws : Laws w.order) (l : ℕ) where
       unfolding does does_arms does_block
 
       pub does_still : (d : Command) → Proper w c.site d → Final d → (pc : ℕ) (s : Store) → Holds w s → High w.order l pc
-          → Quiet w l (concerns w c.site.state c.site.kids d) s → Here s → Mine (touches w At d) s → PathOf (does w At c.site.enter d pc s).store ≡ PathOf s
+          → Quiet w l (concerns w c.site.state c.site.kids d) s → Here s → Mine (touches w At d) s → PathOf (does (within w At c.site.enter) d pc s).store ≡ PathOf s
       does_still (lone k) fine final pc s holds high quiet here cover =
           let hang = raised_alone w At k in
           let dyn : OfDynamic w hang = alone_dynamic w At c.site.siblings (landing w laws l c.site c.entering c.holding) c.site.enter c.holding k in
@@ -360,7 +360,7 @@ module _ (w : World) (laws : Laws w.order) (l : ℕ) where
           let r' = raise w.order hung (guard w At k s) s in
           let q = quiet_kept w laws l c.site c.entering c.holding (concerns w c.site.state c.site.kids (try k hang h)) hung (guard w At k s) s dyn quiet in
           let cov = cover_raise _ _ _ s hung (guard w At k s) cover in
-          attempt_still k final.0 fine.0 hung (does_block w At c.site.enter h) pc s dyn holds
+          attempt_still k final.0 fine.0 hung (does_block (within w At c.site.enter) h) pc s dyn holds
           (quiet_left w laws l c.site c.entering c.holding (step_concerns w c.site.state c.site.kids k) (block_concerns w c.site.state c.site.kids h) r' q) here
           (cover_part _ _ _ _ r' (λ x. touched_in (is_dynamic w x) _ _ (λ i. or_left _ (block_hangs c.site.state c.site.kids h x) i)) cov) (inl high)
           (λ r u. block_still h fine.1 final.1 r _ (holds_raise w s hung _ dyn holds) u
@@ -375,8 +375,8 @@ module _ (w : World) (laws : Laws w.order) (l : ℕ) where
           let q = quiet_kept w laws l c.site c.entering c.holding (concerns w c.site.state c.site.kids (if_else hang e a b)) hung (tag w e s) s dyn quiet in
           let cov = cover_raise _ _ _ s hung (tag w e s) cover in
           let here' = child_raise w.order c.site.parent hung (tag w e s) s ∙ here in
-          select_still e hung (branch (does_block w At c.site.enter a) (does_block w At c.site.enter b)) pc s (high_left w.order laws l pc _ high)
-          (λ v r u. branch_all (λ z. PathOf z.store ≡ PathOf r') (does_block w At c.site.enter a) (does_block w At c.site.enter b) v r r'
+          select_still e hung (branch (does_block (within w At c.site.enter) a) (does_block (within w At c.site.enter) b)) pc s (high_left w.order laws l pc _ high)
+          (λ v r u. branch_all (λ z. PathOf z.store ≡ PathOf r') (does_block (within w At c.site.enter) a) (does_block (within w At c.site.enter) b) v r r'
           (block_still a fine.1 final.0 r _ (holds_raise w s hung _ dyn holds) u
           (quiet_left w laws l c.site c.entering c.holding (block_concerns w c.site.state c.site.kids a) (block_concerns w c.site.state c.site.kids b) r' q) here'
           (cover_part _ _ _ _ r' (λ x. touched_in (is_dynamic w x) _ _ (λ i. or_left _ (block_hangs c.site.state c.site.kids b x) i)) cov))
@@ -394,7 +394,7 @@ module _ (w : World) (laws : Laws w.order) (l : ℕ) where
           let one = block_concerns w c.site.state c.site.kids a in
           let other = block_concerns w c.site.state c.site.kids b in
           let behind = quiet_right w laws l c.site c.entering c.holding mine_now (λ x. one x || other x) r' q in
-          attempt_then_still k final.0 fine.0 hung (does_block w At c.site.enter a) (does_block w At c.site.enter b) pc s dyn holds
+          attempt_then_still k final.0 fine.0 hung (does_block (within w At c.site.enter) a) (does_block (within w At c.site.enter) b) pc s dyn holds
           (quiet_left w laws l c.site c.entering c.holding mine_now (λ x. one x || other x) r' q) here (inl high)
           (λ r u up hold same here' kept. block_still a fine.1 final.1 r u hold up
           (λ z g h. hush_next w laws l r' u same z g (quiet_left w laws l c.site c.entering c.holding one other r' behind z g h)) here'
@@ -412,16 +412,16 @@ module _ (w : World) (laws : Laws w.order) (l : ℕ) where
           let q = quiet_kept w laws l c.site c.entering c.holding (concerns w c.site.state c.site.kids (case_of hang e arms)) hung (tag w e s) s dyn quiet in
           let cov = cover_raise _ _ _ s hung (tag w e s) cover in
           let here' = child_raise w.order c.site.parent hung (tag w e s) s ∙ here in
-          select_still e hung (does_arms w At c.site.enter arms) pc s (high_left w.order laws l pc _ high)
+          select_still e hung (does_arms (within w At c.site.enter) arms) pc s (high_left w.order laws l pc _ high)
           (λ v r u. arms_still arms fine.1 final v r _ (holds_raise w s hung _ dyn holds) u q here' cov)
           ∙ raised_path hung _ s here cover (shallow (case_of hang e arms) fine)
 
       arms_still : (arms : Arms) → ProperArms w c.site arms → ClosingArms arms → (v pc : ℕ) (s : Store) → Holds w s → High w.order l pc
           → Quiet w l (arms_concern w c.site.state c.site.kids arms) s → Here s
-          → Mine (λ x. is_dynamic w x && arms_hang c.site.state c.site.kids arms x) s → PathOf (does_arms w At c.site.enter arms v pc s).store ≡ PathOf s
+          → Mine (λ x. is_dynamic w x && arms_hang c.site.state c.site.kids arms x) s → PathOf (does_arms (within w At c.site.enter) arms v pc s).store ≡ PathOf s
       arms_still (last_arm b) fine final v pc s holds high quiet here cover = block_still b fine final pc s holds high quiet here cover
       arms_still (and_arm cs b arms) fine final v pc s holds high quiet here cover =
-          choose_all (λ z. PathOf z.store ≡ PathOf s) cs (does_block w At c.site.enter b) (does_arms w At c.site.enter arms) v pc s
+          choose_all (λ z. PathOf z.store ≡ PathOf s) cs (does_block (within w At c.site.enter) b) (does_arms (within w At c.site.enter) arms) v pc s
           (block_still b fine.0 final.0 pc s holds high
           (quiet_left w laws l c.site c.entering c.holding (block_concerns w c.site.state c.site.kids b) (arms_concern w c.site.state c.site.kids arms) s quiet) here
           (cover_part _ _ _ _ s (λ x. touched_in (is_dynamic w x) _ _ (λ i. or_left _ (arms_hang c.site.state c.site.kids arms x) i)) cover))
@@ -431,7 +431,7 @@ module _ (w : World) (laws : Laws w.order) (l : ℕ) where
 
       pub block_still : (b : Block) → ProperBlock w c.site b → Closes b → (pc : ℕ) (s : Store) → Holds w s → High w.order l pc
           → Quiet w l (block_concerns w c.site.state c.site.kids b) s → Here s
-          → Mine (λ x. is_dynamic w x && block_hangs c.site.state c.site.kids b x) s → PathOf (does_block w At c.site.enter b pc s).store ≡ PathOf s
+          → Mine (λ x. is_dynamic w x && block_hangs c.site.state c.site.kids b x) s → PathOf (does_block (within w At c.site.enter) b pc s).store ≡ PathOf s
       block_still end_block fine closes pc s holds high quiet here cover = absurd closes
       block_still (command_then d end_block) fine closes pc s holds high quiet here cover =
           does_still d fine.0 closes pc s holds high (λ z g h. quiet z g (or_left _ false h)) here
@@ -439,7 +439,7 @@ module _ (w : World) (laws : Laws w.order) (l : ℕ) where
       block_still (command_then d (command_then j js)) fine closes pc s holds high quiet here cover =
           let f = does_confined w laws l c.site c.entering c.holding d fine.0 pc s holds high
           (quiet_left w laws l c.site c.entering c.holding (concerns w c.site.state c.site.kids d) (block_concerns w c.site.state c.site.kids (command_then j js)) s quiet) in
-          let s' = (does w At c.site.enter d pc s).store in
+          let s' = (does (within w At c.site.enter) d pc s).store in
           let k = clear_own d fine.0 closes.0 pc s in
           block_still (command_then j js) fine.1 closes.1 pc s' (keeps w laws l c.site c.entering c.holding d fine.0 pc s holds) high
           (λ z g h. hush_next w laws l s s' f.same z g (quiet z g (or_right (concerns w c.site.state c.site.kids d (owner z)) _ h)))

@@ -3,7 +3,7 @@ use Rattle.sap_lemmas.proofs.Common.{◌≡◌, ℕ, Bool, true, false, ◌&&◌
 use Rattle.sap_lattice.specs.Order.{Laws}
 use Rattle.sap_maps.specs.Term.{Term, constant, read, cell, one, two, choose, join, part}
 use Rattle.sap_meaning.specs.Prelude.{World, is_dynamic, authority, LevelTerm, fixed, of, at_place, both, Step, assign, write, retag, retag_cell, go_to, fall_to_child, Command, lone, try, if_else, try_then, case_of, Arms, last_arm, and_arm, Block, end_block, command_then, is_memory, Slot, own, start, next, Store, owner, number, level, put_number, raise, After, stay, and_then, Holds, value, tag, level_at, new_level, told, Home, site_of, guard, test, touches, raised_alone, effect, attempt, select, branch, does, does_block, attempt_then, is_constant, does_arms, Low, High, seen, FineTerm, FineLevel, transfers, Open, NoTransfer, Once, OnceBlock, OnceArms, step_writes, step_reaches, block_reaches, EveryInArms, EveryInBlock}
-use Rattle.sap_meaning.specs.Does.{choose_arm}
+use Rattle.sap_meaning.specs.Does.{within, choose_arm}
 use Rattle.sap_meaning.proofs.Slots.{held_register}
 use Rattle.sap_meaning.proofs.Keeps.{OfDynamic, Keeps, branch_all, holds_raise, alone_dynamic, effect_holds}
 use Rattle.sap_secure.proofs.Levels.{Like, Same, high_right, low_below, low_left, low_right, low_join, not_below, same_high, seen_parts}
@@ -174,7 +174,7 @@ module _ (w : World) (laws : Laws w.order) (l : ℕ) where
 
     -- under a low guard the effects look alike
     pub effect_low : (k : Step) → ProperStep w i k → transfers k ≡ false → (pc : ℕ) (s t r u : Store) → IsLow pc → Agree w l s t
-        → Agree w l r u → IsLow (guard w At k s) → test w At k pc s ≡ true → Twin w l (effect w At i.enter k pc s r) (effect w At i.enter k pc t u)
+        → Agree w l r u → IsLow (guard w At k s) → test w At k pc s ≡ true → Twin w l (effect (within w At i.enter) k pc s r) (effect (within w At i.enter) k pc t u)
     unfolding effect
     effect_low (assign site x e) fine plain pc s t r u lowpc like lifts h ts = elim (cases_Bool (is_dynamic w x)) [
       | inl d ↦ rw d (record {
@@ -300,7 +300,7 @@ module _ (w : World) (laws : Laws w.order) (l : ℕ) where
     attempt_low : (k : Step) → ProperStep w i k → transfers k ≡ false → (hang : ℕ → Bool) (h : ℕ → Store → After) (pc : ℕ) (s t : Store)
         → OfDynamic w hang → Holds w s → Holds w t → IsLow pc → Agree w l s t → IsLow (guard w At k s) → (eh : ℕ → Bool) → Even w eh s
         → Even w eh t → ((q : ℕ) (r u : Store) → Holds w r → Holds w u → IsLow q → Agree w l r u → Even w eh r → Even w eh u
-        → Twin w l (h q r) (h q u)) → Twin w l (attempt w At i.enter k hang h pc s) (attempt w At i.enter k hang h pc t)
+        → Twin w l (h q r) (h q u)) → Twin w l (attempt (within w At i.enter) k hang h pc s) (attempt (within w At i.enter) k hang h pc t)
     unfolding attempt
     attempt_low k fine plain hang h pc s t dyn hs ht lowpc like low eh es et handler = elim (cases_Bool (test w At k pc s)) [
       | inl a ↦ rw (a, sym (test_low k fine plain pc s t like low) ∙ a) (effect_low k fine plain pc s t r u lowpc like lifts low a)
@@ -326,11 +326,11 @@ module _ (w : World) (laws : Laws w.order) (l : ℕ) where
     -- the effect of an open step leaves both parts of the cells that it does not write as they were
     pub even_step : (k : Step) → transfers k ≡ false → (h : ℕ → Bool)
         → ((m : ℕ) → is_memory w m ≡ true → is_dynamic w m ≡ false → h m ≡ true → step_writes k m ≡ false) → (pc : ℕ) (b s : Store)
-        → Even w h s → Even w h (effect w At i.enter k pc b s).store
+        → Even w h s → Even w h (effect (within w At i.enter) k pc b s).store
     even_step k plain h free pc b s e z g d j = part z g j d (e z g d j)
       where
         part : (z : Slot) → changing w z ≡ true → h (owner z) ≡ true → is_dynamic w (owner z) ≡ false → level w (begun z) s ≡ level w z s
-            → level w (begun z) (effect w (spot i) i.enter k pc b s).store ≡ level w z (effect w (spot i) i.enter k pc b s).store
+            → level w (begun z) (effect (within w (spot i) i.enter) k pc b s).store ≡ level w z (effect (within w (spot i) i.enter) k pc b s).store
         part (next m n) g j d e = let f = free m g d j in (start_effect w i 0 m g d k plain f pc b s n).level ∙ e ∙ sym (next_effect w i 0 m g d k plain f pc b s n).level
         part _ g j d e = refl
 
@@ -338,10 +338,10 @@ module _ (w : World) (laws : Laws w.order) (l : ℕ) where
     attempt_then_low : (k : Step) → ProperStep w i k → transfers k ≡ false
         → (hang : ℕ → Bool) (f h : ℕ → Store → After) (pc : ℕ) (s t : Store) → OfDynamic w hang → Holds w s → Holds w t → IsLow pc → Agree w l s t → IsLow (guard w At k s)
         → (fh eh : ℕ → Bool) → Even w fh s → Even w fh t → Even w eh s → Even w eh t
-        → ((b r : Store) → Even w fh r → Even w fh (effect w At i.enter k pc b r).store)
+        → ((b r : Store) → Even w fh r → Even w fh (effect (within w At i.enter) k pc b r).store)
         → ((q : ℕ) (r u : Store) → Holds w r → Holds w u → IsLow q → Agree w l r u → Even w fh r → Even w fh u → Twin w l (f q r) (f q u))
         → ((q : ℕ) (r u : Store) → Holds w r → Holds w u → IsLow q → Agree w l r u → Even w eh r → Even w eh u → Twin w l (h q r) (h q u))
-        → Twin w l (attempt_then w At i.enter k hang f h pc s) (attempt_then w At i.enter k hang f h pc t)
+        → Twin w l (attempt_then (within w At i.enter) k hang f h pc s) (attempt_then (within w At i.enter) k hang f h pc t)
     unfolding attempt_then
     attempt_then_low k fine plain hang f h pc s t dyn hs ht lowpc like low fh eh fs ft es et keep accepted handler = elim (cases_Bool (test w At k pc s)) [
       | inl a ↦ rw (a, sym (test_low k fine plain pc s t like low) ∙ a) (behind a (guard w At k t) (guard_low k fine plain s t like low))
@@ -367,13 +367,13 @@ module _ (w : World) (laws : Laws w.order) (l : ℕ) where
         lifts = agree_raised w laws l s t hang _ _ dyn like (guard_same k fine plain s t like, guard_low k fine plain s t like)
 
         one : Store
-        one = (effect w At i.enter k pc s r).store
+        one = (effect (within w At i.enter) k pc s r).store
 
         other : Store
-        other = (effect w At i.enter k pc t u).store
+        other = (effect (within w At i.enter) k pc t u).store
 
         behind : test w At k pc s ≡ true → (v : ℕ) → guard w At k s ≡ v
-            → Twin w l (and_then (effect w At i.enter k pc s r) (f (w.order.join pc (guard w At k s)))) (and_then (effect w At i.enter k pc t u) (f (w.order.join pc v)))
+            → Twin w l (and_then (effect (within w At i.enter) k pc s r) (f (w.order.join pc (guard w At k s)))) (and_then (effect (within w At i.enter) k pc t u) (f (w.order.join pc v)))
         behind a v e = rw (← e) (
             let c = effect_low k fine plain pc s t r u lowpc like lifts low a in
             let b = sym (test_low k fine plain pc s t like low) ∙ a in
@@ -427,7 +427,7 @@ module _ (w : World) (laws : Laws w.order) (l : ℕ) where
 
     pub try_side : (k : Step) (hang : List Bool) (h : Block) → Proper w i (try k hang h) → (pc : ℕ) (s : Store) → Holds w s
         → Even w (concerns w i.state i.kids (try k hang h)) s → High w.order l (guard w At k s)
-        → Confined w l (raise w.order (touches w At (try k hang h)) (guard w At k s) s) (does w At i.enter (try k hang h) pc s)
+        → Confined w l (raise w.order (touches w At (try k hang h)) (guard w At k s) s) (does (within w At i.enter) (try k hang h) pc s)
     unfolding does
     try_side k hang h fine pc s hs even g =
         let hung = touches w At (try k hang h) in
@@ -435,14 +435,14 @@ module _ (w : World) (laws : Laws w.order) (l : ℕ) where
         let r = raise w.order hung (guard w At k s) s in
         let q : Quiet w l (concerns w i.state i.kids (try k hang h)) r =
         quiet_raise w laws l (concerns w i.state i.kids (try k hang h)) hung _ s (hanging w i.state i.kids (try k hang h)) dyn g even in
-        attempt_confined w laws l i entering holding k fine.0 hung (does_block w At i.enter h) pc s dyn hs
+        attempt_confined w laws l i entering holding k fine.0 hung (does_block (within w At i.enter) h) pc s dyn hs
         (quiet_left w laws l i entering holding (step_concerns w i.state i.kids k) (block_concerns w i.state i.kids h) r q) (inr g)
         (λ z up. block_confined w laws l i entering holding h fine.1 z r (holds_raise w s hung _ dyn hs) up
         (quiet_right w laws l i entering holding (step_concerns w i.state i.kids k) (block_concerns w i.state i.kids h) r q))
 
     pub if_side : (hang : List Bool) (e : Term ℕ) (a b : Block) → Proper w i (if_else hang e a b) → (pc : ℕ) (s : Store) → Holds w s
         → Even w (concerns w i.state i.kids (if_else hang e a b)) s → High w.order l (tag w e s)
-        → Confined w l (raise w.order (touches w At (if_else hang e a b)) (tag w e s) s) (does w At i.enter (if_else hang e a b) pc s)
+        → Confined w l (raise w.order (touches w At (if_else hang e a b)) (tag w e s) s) (does (within w At i.enter) (if_else hang e a b) pc s)
     unfolding does
     if_side hang e a b fine pc s hs even g =
         let hung = touches w At (if_else hang e a b) in
@@ -450,8 +450,8 @@ module _ (w : World) (laws : Laws w.order) (l : ℕ) where
         let r = raise w.order hung (tag w e s) s in
         let q : Quiet w l (concerns w i.state i.kids (if_else hang e a b)) r =
         quiet_raise w laws l (concerns w i.state i.kids (if_else hang e a b)) hung _ s (hanging w i.state i.kids (if_else hang e a b)) dyn g even in
-        select_confined w laws l i entering holding e hung (branch (does_block w At i.enter a) (does_block w At i.enter b)) pc s (high_right w.order laws l pc _ g)
-        (λ v z up. branch_all (λ y. Confined w l r y) (does_block w At i.enter a) (does_block w At i.enter b) v z r
+        select_confined w laws l i entering holding e hung (branch (does_block (within w At i.enter) a) (does_block (within w At i.enter) b)) pc s (high_right w.order laws l pc _ g)
+        (λ v z up. branch_all (λ y. Confined w l r y) (does_block (within w At i.enter) a) (does_block (within w At i.enter) b) v z r
         (block_confined w laws l i entering holding a fine.1 z r (holds_raise w s hung _ dyn hs) up
         (quiet_left w laws l i entering holding (block_concerns w i.state i.kids a) (block_concerns w i.state i.kids b) r q))
         (block_confined w laws l i entering holding b fine.2 z r (holds_raise w s hung _ dyn hs) up
@@ -459,7 +459,7 @@ module _ (w : World) (laws : Laws w.order) (l : ℕ) where
 
     pub try_then_side : (k : Step) (hang : List Bool) (a b : Block) → Proper w i (try_then k hang a b) → (pc : ℕ) (s : Store) → Holds w s
         → Even w (concerns w i.state i.kids (try_then k hang a b)) s → High w.order l (guard w At k s)
-        → Confined w l (raise w.order (touches w At (try_then k hang a b)) (guard w At k s) s) (does w At i.enter (try_then k hang a b) pc s)
+        → Confined w l (raise w.order (touches w At (try_then k hang a b)) (guard w At k s) s) (does (within w At i.enter) (try_then k hang a b) pc s)
     unfolding does
     try_then_side k hang a b fine pc s hs even g =
         let hung = touches w At (try_then k hang a b) in
@@ -471,7 +471,7 @@ module _ (w : World) (laws : Laws w.order) (l : ℕ) where
         let one = block_concerns w i.state i.kids a in
         let other = block_concerns w i.state i.kids b in
         let behind = quiet_right w laws l i entering holding mine (λ x. one x || other x) r q in
-        attempt_then_confined w laws l i entering holding k fine.0 hung (does_block w At i.enter a) (does_block w At i.enter b) pc s dyn hs
+        attempt_then_confined w laws l i entering holding k fine.0 hung (does_block (within w At i.enter) a) (does_block (within w At i.enter) b) pc s dyn hs
         (quiet_left w laws l i entering holding mine (λ x. one x || other x) r q) (inr g)
         (λ z u up hold same. block_confined w laws l i entering holding a fine.1 z u hold up
         (λ y c d. hush_next w laws l r u same y c (quiet_left w laws l i entering holding one other r behind y c d)))
@@ -479,7 +479,7 @@ module _ (w : World) (laws : Laws w.order) (l : ℕ) where
 
     pub case_side : (hang : List Bool) (e : Term ℕ) (arms : Arms) → Proper w i (case_of hang e arms) → (pc : ℕ) (s : Store) → Holds w s
         → Even w (concerns w i.state i.kids (case_of hang e arms)) s → High w.order l (tag w e s)
-        → Confined w l (raise w.order (touches w At (case_of hang e arms)) (tag w e s) s) (does w At i.enter (case_of hang e arms) pc s)
+        → Confined w l (raise w.order (touches w At (case_of hang e arms)) (tag w e s) s) (does (within w At i.enter) (case_of hang e arms) pc s)
     unfolding does
     case_side hang e arms fine pc s hs even g =
         let hung = touches w At (case_of hang e arms) in
@@ -487,7 +487,7 @@ module _ (w : World) (laws : Laws w.order) (l : ℕ) where
         let r = raise w.order hung (tag w e s) s in
         let q : Quiet w l (concerns w i.state i.kids (case_of hang e arms)) r =
         quiet_raise w laws l (concerns w i.state i.kids (case_of hang e arms)) hung _ s (hanging w i.state i.kids (case_of hang e arms)) dyn g even in
-        select_confined w laws l i entering holding e hung (does_arms w At i.enter arms) pc s (high_right w.order laws l pc _ g)
+        select_confined w laws l i entering holding e hung (does_arms (within w At i.enter) arms) pc s (high_right w.order laws l pc _ g)
         (λ v z up. arms_confined w laws l i entering holding arms fine.1 v z r (holds_raise w s hung _ dyn hs) up q)
 
     -- what the accepted part writes the step does not
@@ -501,7 +501,7 @@ module _ (w : World) (laws : Laws w.order) (l : ℕ) where
 
         pub does_twin : (c : Command) → Proper w i c → Once i.kids below c → Open c → (pc : ℕ) (s t : Store) → Holds w s → Holds w t
             → IsLow pc → Agree w l s t → Even w (concerns w i.state i.kids c) s → Even w (concerns w i.state i.kids c) t
-            → Twin w l (does w At i.enter c pc s) (does w At i.enter c pc t)
+            → Twin w l (does (within w At i.enter) c pc s) (does (within w At i.enter) c pc t)
         does_twin (lone k) fine once plain pc s t hs ht low like es et =
             let hang = raised_alone w At k in
             let dyn : OfDynamic w hang = alone_dynamic w At i.siblings (landing w laws l i entering holding) i.enter holding k in
@@ -521,7 +521,7 @@ module _ (w : World) (laws : Laws w.order) (l : ℕ) where
             let hung = touches w At (try k hang h) in
             let dyn : OfDynamic w hung = touches_dynamic w laws l i entering holding (try k hang h) in
             elim (cases_Bool (w.order.le (guard w At k s) l)) [
-              | inl g ↦ attempt_low k fine.0 plain.0 hung (does_block w At i.enter h) pc s t dyn hs ht low like g (block_concerns w i.state i.kids h)
+              | inl g ↦ attempt_low k fine.0 plain.0 hung (does_block (within w At i.enter) h) pc s t dyn hs ht low like g (block_concerns w i.state i.kids h)
                   (even_right (step_concerns w i.state i.kids k) (block_concerns w i.state i.kids h) s es)
                   (even_right (step_concerns w i.state i.kids k) (block_concerns w i.state i.kids h) t et)
                   (λ q r u hr hu lq e er eu. block_twin h fine.1 once.1 plain.1 q r u hr hu lq e er eu)
@@ -536,9 +536,9 @@ module _ (w : World) (laws : Laws w.order) (l : ℕ) where
             let hung = touches w At (if_else hang e a b) in
             let dyn : OfDynamic w hung = touches_dynamic w laws l i entering holding (if_else hang e a b) in
             elim (cases_Bool (w.order.le (tag w e s) l)) [
-              | inl g ↦ select_low e fine.0 hung (branch (does_block w At i.enter a) (does_block w At i.enter b)) pc s t dyn hs ht low like
+              | inl g ↦ select_low e fine.0 hung (branch (does_block (within w At i.enter) a) (does_block (within w At i.enter) b)) pc s t dyn hs ht low like
                   g (concerns w i.state i.kids (if_else hang e a b)) es et
-                  (λ v q r u hr hu lq k er eu. branch_both (λ y z. Twin w l y z) (does_block w At i.enter a) (does_block w At i.enter b) v q r u
+                  (λ v q r u hr hu lq k er eu. branch_both (λ y z. Twin w l y z) (does_block (within w At i.enter) a) (does_block (within w At i.enter) b) v q r u
                   (block_twin a fine.1 once.0 plain.1 q r u hr hu lq k
                   (even_left (block_concerns w i.state i.kids a) (block_concerns w i.state i.kids b) r er)
                   (even_left (block_concerns w i.state i.kids a) (block_concerns w i.state i.kids b) u eu))
@@ -559,7 +559,7 @@ module _ (w : World) (laws : Laws w.order) (l : ℕ) where
             let es' = even_right mine (λ x. one x || other x) s es in
             let et' = even_right mine (λ x. one x || other x) t et in
             elim (cases_Bool (w.order.le (guard w At k s) l)) [
-              | inl g ↦ attempt_then_low k fine.0 plain.0 hung (does_block w At i.enter a) (does_block w At i.enter b) pc s t dyn hs ht low like g one other
+              | inl g ↦ attempt_then_low k fine.0 plain.0 hung (does_block (within w At i.enter) a) (does_block (within w At i.enter) b) pc s t dyn hs ht low like g one other
                   (even_left one other s es') (even_left one other t et') (even_right one other s es') (even_right one other t et')
                   (λ v r e. even_step k plain.0 one (apart_step k a fine.1 plain.0 once.3) pc v r e)
                   (λ q r u hr hu lq e er eu. block_twin a fine.1 once.1 plain.1 q r u hr hu lq e er eu)
@@ -575,7 +575,7 @@ module _ (w : World) (laws : Laws w.order) (l : ℕ) where
             let hung = touches w At (case_of hang e arms) in
             let dyn : OfDynamic w hung = touches_dynamic w laws l i entering holding (case_of hang e arms) in
             elim (cases_Bool (w.order.le (tag w e s) l)) [
-              | inl g ↦ select_low e fine.0 hung (does_arms w At i.enter arms) pc s t dyn hs ht low like g (arms_concern w i.state i.kids arms) es et
+              | inl g ↦ select_low e fine.0 hung (does_arms (within w At i.enter) arms) pc s t dyn hs ht low like g (arms_concern w i.state i.kids arms) es et
                   (λ v q r u hr hu lq k er eu. arms_twin arms fine.1 once plain.1 v q r u hr hu lq k er eu)
               | inr g ↦ twin_confined (raise w.order hung (tag w e s) s) (raise w.order hung (tag w e t) t)
                   _ _ (agree_raised w laws l s t hung _ _ dyn like (tag_same e fine.0 s t like, λ lo. tag_low e fine.0 s t like lo))
@@ -585,25 +585,25 @@ module _ (w : World) (laws : Laws w.order) (l : ℕ) where
 
         arms_twin : (arms : Arms) → ProperArms w i arms → OnceArms i.kids below arms → EveryInArms NoTransfer arms → (v pc : ℕ) (s t : Store) → Holds w s
             → Holds w t → IsLow pc → Agree w l s t → Even w (arms_concern w i.state i.kids arms) s → Even w (arms_concern w i.state i.kids arms) t
-            → Twin w l (does_arms w At i.enter arms v pc s) (does_arms w At i.enter arms v pc t)
+            → Twin w l (does_arms (within w At i.enter) arms v pc s) (does_arms (within w At i.enter) arms v pc t)
         arms_twin (last_arm b) fine once plain v pc s t hs ht low like es et = block_twin b fine once plain pc s t hs ht low like es et
         arms_twin (and_arm cs b arms) fine once plain v pc s t hs ht low like es et =
             let here = block_concerns w i.state i.kids b in
             let rest = arms_concern w i.state i.kids arms in
-            choose_both (λ y z. Twin w l y z) cs (does_block w At i.enter b) (does_arms w At i.enter arms) v pc s t
+            choose_both (λ y z. Twin w l y z) cs (does_block (within w At i.enter) b) (does_arms (within w At i.enter) arms) v pc s t
             (block_twin b fine.0 once.0 plain.0 pc s t hs ht low like (even_left here rest s es) (even_left here rest t et))
             (arms_twin arms fine.1 once.1 plain.1 v pc s t hs ht low like (even_right here rest s es) (even_right here rest t et))
 
         pub block_twin : (b : Block) → ProperBlock w i b → OnceBlock i.kids below b → EveryInBlock NoTransfer b → (pc : ℕ) (s t : Store) → Holds w s
             → Holds w t → IsLow pc → Agree w l s t → Even w (block_concerns w i.state i.kids b) s
-            → Even w (block_concerns w i.state i.kids b) t → Twin w l (does_block w At i.enter b pc s) (does_block w At i.enter b pc t)
+            → Even w (block_concerns w i.state i.kids b) t → Twin w l (does_block (within w At i.enter) b pc s) (does_block (within w At i.enter) b pc t)
         block_twin end_block fine once plain pc s t hs ht low like es et = record { same = like; refused = refl }
         block_twin (command_then c cs) fine once plain pc s t hs ht low like es et =
             let apart = apart_from w i c cs (fine_block w i cs fine.1) plain.0 once.2 in
             let f = does_twin c fine.0 once.0 plain.0 pc s t hs ht low like
             (even_left (concerns w i.state i.kids c) (block_concerns w i.state i.kids cs) s es)
             (even_left (concerns w i.state i.kids c) (block_concerns w i.state i.kids cs) t et) in
-            let g = block_twin cs fine.1 once.1 plain.1 pc (does w At i.enter c pc s).store (does w At i.enter c pc t).store
+            let g = block_twin cs fine.1 once.1 plain.1 pc (does (within w At i.enter) c pc s).store (does (within w At i.enter) c pc t).store
             (keeps w laws l i entering holding c fine.0 pc s hs) (keeps w laws l i entering holding c fine.0 pc t ht) low f.same
             (even_next w laws l i entering holding c cs apart pc s (even_right (concerns w i.state i.kids c) (block_concerns w i.state i.kids cs) s es))
             (even_next w laws l i entering holding c cs apart pc t (even_right (concerns w i.state i.kids c) (block_concerns w i.state i.kids cs) t et)) in

@@ -3,7 +3,7 @@ use Rattle.sap_lemmas.proofs.Common.{◌≡◌, ℕ, zero, suc, true, false, ◌
 use Rattle.sap_meaning.proofs.ProgramLemmas.{register_no_memory}
 use Rattle.sap_meaning.proofs.FineLemmas.{inside_among}
 use Rattle.sap_lattice.specs.Order.{Laws}
-use Rattle.sap_meaning.specs.Prelude.{seen, StatesAgree, Program, World, Kind, entity, kind_is_input, kind_is_register, kind_is_memory, is_dynamic, is_register, is_memory, is_state, root, below, Step, assign, write, go_to, fall_to_child, Command, lone, try, if_else, try_then, case_of, Arms, last_arm, and_arm, Block, end_block, command_then, State, state_node, Group, no_node, and_node, own, next, next_whole, Store, home, level, child, among, step_hangs, hangs, touches, group_assigns, step_retags, retags, block_retags, state_retags, group_retags, does, does_child, Holds, High, FineTerm, FineStep, FineCommand, inside, number_of, kids_of, ClosingArms, NoTransfer, reaches, Every, EveryInArms, some_in_arms}
+use Rattle.sap_meaning.specs.Prelude.{within, seen, StatesAgree, Program, World, Kind, entity, kind_is_input, kind_is_register, kind_is_memory, is_dynamic, is_register, is_memory, is_state, root, below, Step, assign, write, go_to, fall_to_child, Command, lone, try, if_else, try_then, case_of, Arms, last_arm, and_arm, Block, end_block, command_then, State, state_node, Group, no_node, and_node, own, next, next_whole, Store, home, level, child, among, step_hangs, hangs, touches, group_assigns, step_retags, retags, block_retags, state_retags, group_retags, does, does_child, Holds, High, FineTerm, FineStep, FineCommand, inside, number_of, kids_of, ClosingArms, NoTransfer, reaches, Every, EveryInArms, some_in_arms}
 use Rattle.sap_meaning.specs.Program.{input}
 use Rattle.sap_meaning.specs.Fine.{FineProgram, Nth}
 use Rattle.sap_secure.specs.Confinement.{done_in, Hidden, last_parent, Active, StandsIn, StandsInBlock, is_goto, is_fall, has_goto, has_fall, level_slot, EqualParts, SomeHigh, Guarded, Confinement, StandsInArms}
@@ -197,7 +197,7 @@ module _ (w : World) (laws : Laws w.order) (l : ℕ) where
     -- a command in the body of the last state leaves a state above it as it was
     above_kept : (p : ℕ) (q : Group) (around : Around w p q) (c : ℕ) (b' : Block) (k : Group) → Nth q (child p s) (state_node c b' k)
         → (way : List State) → (act : Active c k s way (state_node e b g)) → (u : Store)
-        → Kept w (own c) p u (does w (record { state = e; parent = last_parent c way; children = g }) (does_child w g e) d pc u).store
+        → Kept w (own c) p u (does (within w (record { state = e; parent = last_parent c way; children = g }) (does_child w g e)) d pc u).store
     above_kept p q around c b' k nth way act u =
         under_kept w c p (node w i).kind e (last_parent c way) g (last_group k way) (does_child w g e) out own_out kids_out free away
         (λ m z v. child_under w c p (node w i).kind g e g 0 (own_fine w j).1
@@ -249,7 +249,7 @@ module _ (w : World) (laws : Laws w.order) (l : ℕ) where
         untagged = last_retags c k s way (state_node e b g) act c (neither_right (block_retags b' c) _ (node w i).retags_itself)
 
     all_kept : (p : ℕ) (q : Group) (around : Around w p q) (way : List State) → (act : Active p q s way (state_node e b g))
-        → Kepts s (does w (record { state = e; parent = last_parent p way; children = g }) (does_child w g e) d pc s).store p way
+        → Kepts s (does (within w (record { state = e; parent = last_parent p way; children = g }) (does_child w g e)) d pc s).store p way
     all_kept p q around [] act = tt
     all_kept p q around (state_node c b' k ∷ way) act =
         (above_kept p q around c b' k act.0 way act.1 s, all_kept c k (kids_around w (site_at w p (child p s) c b' k q around act.0)) way act.1)
@@ -334,28 +334,28 @@ by_state p fine l s way (state_node e b g) c pc h =
     quiet : Quiet p.world l (concerns p.world e g c) s
     quiet = quiet_of p.world fine.order l i c proper.0 s h.touched h.parts
 
-    conf : Confined p.world l s (does p.world (spot i) (does_child p.world g e) c pc s)
+    conf : Confined p.world l s (does (within p.world (spot i) (does_child p.world g e)) c pc s)
     conf = does_confined p.world fine.order l i sc.entering sc.holding c proper.0 pc s h.holds h.context quiet
 
     at_group : High p.world.order l (level p.world (own e) s) ⊎ Guarded p.world l (state_node e b g) c s
         → path p.world l (last_parent (root p.world) way) (last_group p.states way)
-        (does p.world (spot i) (does_child p.world g e) c pc s).store ≡ path p.world l (last_parent (root p.world) way) (last_group p.states way) s
+        (does (within p.world (spot i) (does_child p.world g e)) c pc s).store ≡ path p.world l (last_parent (root p.world) way) (last_group p.states way) s
     at_group q = elim proper.1 [
       | inl final ↦ does_still p.world fine.order l sc c proper.0 final pc s h.holds h.context quiet refl (cover_of p.world fine.order l i c proper.0 s q)
       | inr plain ↦ clear_path p.world fine.order l sc c proper.0 plain pc s refl
     ]
 
     below' : SomeHigh p.world l s way ⊎ (path p.world l (last_parent (root p.world) way) (last_group p.states way)
-        (does p.world (spot i) (does_child p.world g e) c pc s).store ≡ path p.world l (last_parent (root p.world) way) (last_group p.states way) s)
+        (does (within p.world (spot i) (does_child p.world g e)) c pc s).store ≡ path p.world l (last_parent (root p.world) way) (last_group p.states way) s)
     below' = elim h.above [
       | inl y ↦ elim y [ inl z ↦ inr (at_group (inl z)) | inr z ↦ inl z ]
       | inr y ↦ inr (at_group (inr y))
     ]
 
-    way_same : path p.world l (root p.world) p.states s ≡ path p.world l (root p.world) p.states (does p.world (spot i) (does_child p.world g e) c pc s).store
+    way_same : path p.world l (root p.world) p.states s ≡ path p.world l (root p.world) p.states (does (within p.world (spot i) (does_child p.world g e)) c pc s).store
     way_same = sym (way_path w laws l (root w) p.states s _ way (state_node e b g) h.active (all_kept w laws l s e b g c h.command pc (root w) p.states top way h.active) below')
 
-    kept : Holds p.world (does p.world (spot i) (does_child p.world g e) c pc s).store
+    kept : Holds p.world (does (within p.world (spot i) (does_child p.world g e)) c pc s).store
     kept = keeps p.world fine.order l i sc.entering sc.holding c proper.0 pc s h.holds
 
 pub confinement_law : Confinement

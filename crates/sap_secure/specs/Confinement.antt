@@ -5,7 +5,7 @@ use Rattle.sap_meaning.specs.Store.{Store, Slot, own, start, next, next_whole, n
 use Rattle.sap_meaning.specs.Walks.{some, body_of}
 use Rattle.sap_meaning.specs.Checks.{Home}
 use Rattle.sap_meaning.specs.Touches.{touches}
-use Rattle.sap_meaning.specs.Does.{does, does_child}
+use Rattle.sap_meaning.specs.Does.{within, does, does_child}
 use Rattle.sap_meaning.specs.State.{Holds}
 use Rattle.sap_meaning.specs.Agree.{High, StatesAgree, seen}
 use Rattle.sap_meaning.specs.Fine.{FineProgram, number_of, kids_of, Nth}
@@ -101,7 +101,8 @@ home_in p at =
 -- What the command of a situation does.
 abbrev pub done_in : Program → Situation → Store → After
 done_in p at s =
-    does p.world (home_in p at) (does_child p.world (kids_of at.state) (number_of at.state)) at.command at.context s
+    does (within p.world (home_in p at) (does_child p.world (kids_of at.state) (number_of at.state)))
+    at.command at.context s
 
 -- The conditions of confinement. The state is on the active path, below the states of its way, and the command is in
 -- its body. Neither the context nor the level of any dynamic register or memory that the command touches is at or below

@@ -1,7 +1,7 @@
 -- Effects on memories.
 use Rattle.sap_lemmas.proofs.Common.{◌≡◌, ℕ, ◌+◌, Bool, true, false, ◌&&◌, refl, sym, ap, ap₂, ◌∙◌, subst, nat_eq, inl, inr, if◌then◌else◌, ◌==◌, cases_Bool, eqb-true}
 use Rattle.sap_maps.specs.Prelude.{Name, Term}
-use Rattle.sap_meaning.specs.Prelude.{is_dynamic, is_memory, LevelTerm, write, retag_cell, Group, Slot, own, start, next, start_whole, next_whole, Store, number, level, home, same_slot, put_number, put_level, raise, After, value, tag, new_level, Home, effect, FineStep}
+use Rattle.sap_meaning.specs.Prelude.{within, is_dynamic, is_memory, LevelTerm, write, retag_cell, Group, Slot, own, start, next, start_whole, next_whole, Store, number, level, home, same_slot, put_number, put_level, raise, After, value, tag, new_level, Home, effect, FineStep}
 use Rattle.sap_ir.specs.Prelude.{Going, value_in, set_cell, body_does}
 use Rattle.sap_tagged.specs.Prelude.{Key, value_key, tag_key, seat_key, wire_key, first_key, same, Setting, var, lub, expr, effect_of, Lawful, at, tag_slot, Stands, Turns}
 use Rattle.sap_tagged.proofs.Bools.{tagged_memory}
@@ -100,7 +100,7 @@ module _ (d : Setting) (widths : Name → ℕ) (laws : Lawful d widths) where
   pub write_effect : (f : Going → Going) (go : Name → Going → Going) (enter : ℕ → ℕ → Store → After) (q : Group) (k free : ℕ) (sp : Home)
       (site m : ℕ) (i e : Term ℕ) (l : ℕ) (b r : Store) (g : Going)
       → FineStep d.world q sp.children (write site m i e) → Begins d k sp (write site m i e) l b r g
-      → Turns d free g (body_does widths f go (effect_of d sp k (write site m i e)) g) (effect d.world sp enter (write site m i e) l b r)
+      → Turns d free g (body_does widths f go (effect_of d sp k (write site m i e)) g) (effect (within d.world sp enter) (write site m i e) l b r)
   unfolding effect put_to put_number
   write_effect f go enter q k free sp site m i e l b r g fine h =
       let n = value d.world i b in
@@ -141,7 +141,7 @@ module _ (d : Setting) (widths : Name → ℕ) (laws : Lawful d widths) where
   pub retag_cell_effect : (f : Going → Going) (go : Name → Going → Going) (enter : ℕ → ℕ → Store
       → After) (q : Group) (k free : ℕ) (sp : Home) (site m : ℕ) (j : Term ℕ) (n : LevelTerm) (l : ℕ) (b r : Store) (g : Going)
       → FineStep d.world q sp.children (retag_cell site m j n) → Begins d k sp (retag_cell site m j n) l b r g
-      → Turns d free g (body_does widths f go (effect_of d sp k (retag_cell site m j n)) g) (effect d.world sp enter (retag_cell site m j n) l b r)
+      → Turns d free g (body_does widths f go (effect_of d sp k (retag_cell site m j n)) g) (effect (within d.world sp enter) (retag_cell site m j n) l b r)
   unfolding effect
   retag_cell_effect f go enter q k free sp site m j n l b r g fine h =
       let i = value d.world j b in

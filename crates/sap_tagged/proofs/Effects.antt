@@ -1,7 +1,7 @@
 -- Effects of assignments, of new levels and of falls.
 use Rattle.sap_lemmas.proofs.Common.{◌≡◌, ℕ, ◌+◌, ◌≤◌, Bool, true, false, ◌||◌, List, refl, sym, ap, ◌∙◌, subst, nat_eq, inl, inr, if◌then◌else◌, ◌==◌, cases_Bool, eqb-true, or_right, true_is_not_false}
 use Rattle.sap_maps.specs.Prelude.{Name, Term}
-use Rattle.sap_meaning.specs.Prelude.{Kind, entity, is_dynamic, is_register, is_memory, kind_is_input, kind_is_register, kind_is_state, LevelTerm, Step, assign, retag, fall_to_child, Group, own, start, Store, number, level, child, put_number, put_level, After, value, tag, new_level, Home, guard, child_level, effect, FineStep}
+use Rattle.sap_meaning.specs.Prelude.{within, Kind, entity, is_dynamic, is_register, is_memory, kind_is_input, kind_is_register, kind_is_state, LevelTerm, Step, assign, retag, fall_to_child, Group, own, start, Store, number, level, child, put_number, put_level, After, value, tag, new_level, Home, guard, child_level, effect, FineStep}
 use Rattle.sap_meaning.specs.Program as program
 use Rattle.sap_ir.specs.Prelude.{Going, value_in, body_does}
 use Rattle.sap_tagged.specs.Prelude.{value_key, tag_key, seat_key, refused_key, level_key, wire_key, inner_key, Setting, expr, effect_of, Lawful, at, is_value, has_tag, Stands, Turns}
@@ -97,7 +97,7 @@ module _ (d : Setting) (widths : Name → ℕ) (laws : Lawful d widths) where
     -- An effect leaves all wires alone, but for a fall those from `base` on: so those before `free` stay.
     pub set_effect : (q : Group) (k free : ℕ) (sp : Home) (site x : ℕ) (e : Term ℕ) (l : ℕ) (b r : Store) (g : Going) → FineStep d.world q sp.children (assign site x e)
         → Begins d k sp (assign site x e) l b r g
-        → Turns d free g (body_does widths f go (effect_of d sp k (assign site x e)) g) (effect d.world sp enter (assign site x e) l b r)
+        → Turns d free g (body_does widths f go (effect_of d sp k (assign site x e)) g) (effect (within d.world sp enter) (assign site x e) l b r)
     unfolding effect put_to
     set_effect q k free sp site x e l b r g fine h = elim (cases_Bool (is_dynamic d.world x)) [
       | inl t ↦
@@ -123,7 +123,7 @@ module _ (d : Setting) (widths : Name → ℕ) (laws : Lawful d widths) where
 
     pub retag_effect : (q : Group) (k free : ℕ) (sp : Home) (site x : ℕ) (n : LevelTerm) (l : ℕ) (b r : Store) (g : Going) → FineStep d.world q sp.children (retag site x n)
         → Begins d k sp (retag site x n) l b r g
-        → Turns d free g (body_does widths f go (effect_of d sp k (retag site x n)) g) (effect d.world sp enter (retag site x n) l b r)
+        → Turns d free g (body_does widths f go (effect_of d sp k (retag site x n)) g) (effect (within d.world sp enter) (retag site x n) l b r)
     unfolding effect put_to
     retag_effect q k free sp site x n l b r g fine h = elim (cases_Bool (is_register d.world x)) [
       | inl t ↦
@@ -150,7 +150,7 @@ module _ (d : Setting) (widths : Name → ℕ) (laws : Lawful d widths) where
 
     pub fall_effect : (base k free : ℕ) (sp : Home) (site : ℕ) (hang : List Bool) (l : ℕ) (b r : Store) (g : Going) → free ≤ base → FallsRun d f base sp.state enter
         → Begins d k sp (fall_to_child site hang) l b r g
-        → Turns d free g (body_does widths f go (effect_of d sp k (fall_to_child site hang)) g) (effect d.world sp enter (fall_to_child site hang) l b r)
+        → Turns d free g (body_does widths f go (effect_of d sp k (fall_to_child site hang)) g) (effect (within d.world sp enter) (fall_to_child site hang) l b r)
     unfolding effect put_to
     fall_effect base k free sp site hang l b r g fb falls h =
         let g1 = put_to d g (inner_key sp.state) (at d g (wire_key (k + 2))) in

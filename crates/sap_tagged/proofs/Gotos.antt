@@ -2,7 +2,7 @@
 use Rattle.sap_lemmas.proofs.Common.{◌≡◌, ℕ, ◌+◌, Bool, true, false, ◌&&◌, refl, sym, ap, ◌∙◌, subst, arith, nat_lt, nat_le, nat_eq, if◌then◌else◌, eqb-true}
 use Rattle.sap_meaning.proofs.ProgramLemmas.{memory_no_state, state_no_value}
 use Rattle.sap_maps.specs.Prelude.{Name, Term}
-use Rattle.sap_meaning.specs.Prelude.{World, root, entity, is_dynamic, is_state, is_memory, place, last, below, go_to, Group, own, next_whole, Store, put_number, put_level, put_child, lowered, reset, After, stay, Home, among, effect}
+use Rattle.sap_meaning.specs.Prelude.{within, World, root, entity, is_dynamic, is_state, is_memory, place, last, below, go_to, Group, own, next_whole, Store, put_number, put_level, put_child, lowered, reset, After, stay, Home, among, effect}
 use Rattle.sap_ir.specs.Prelude.{Going, Body, stop, goto, body_does}
 use Rattle.sap_tagged.specs.Prelude.{value_key, tag_key, seat_key, refused_key, level_key, wire_key, first_key, Setting, var, bits, gives, for_each, resets, effect_of, Lawful, at, is_value, has_tag, tag_slot, Stands, Turns}
 use Rattle.sap_tagged.proofs.Bools.{tagged_within}
@@ -117,7 +117,7 @@ module _ (d : Setting) (widths : Name → ℕ) (laws : Lawful d widths) where
 
     pub goto_effect : (enter : ℕ → ℕ → Store → After) (q : Group) (k free : ℕ) (sp : Home) (site target l : ℕ) (b r : Store) (g : Going) → GoesRun d go sp.parent q
         → among q target ≡ true → is_state d.world target ≡ true → is_memory d.world target ≡ false → Stands d g r → at d g (wire_key (k + 3)) ≡ d.code l
-        → Turns d free g (body_does widths f go (effect_of d sp k (go_to site target)) g) (effect d.world sp enter (go_to site target) l b r)
+        → Turns d free g (body_does widths f go (effect_of d sp k (go_to site target)) g) (effect (within d.world sp enter) (go_to site target) l b r)
     unfolding effect
     goto_effect enter q k free sp site target l b r g goes i state m st new =
         let end : Body =

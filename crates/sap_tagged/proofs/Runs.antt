@@ -2,7 +2,7 @@
 use Rattle.sap_lemmas.proofs.Common.{◌≡◌, ℕ, suc, ◌+◌, ◌*◌, ◌^◌, ◌<◌, ◌≤◌, Bool, List, ◌∷◌, length, get_or, refl, ap, ◌∙◌, arith, nat_eq, inl, inr, if◌then◌else◌, cases_Bool, test_symmetric}
 use Rattle.sap_tree.specs.Limits.{most_arms}
 use Rattle.sap_maps.specs.Prelude.{Name, Term}
-use Rattle.sap_meaning.specs.Prelude.{listed, Step, assign, write, retag, retag_cell, go_to, fall_to_child, Command, lone, try, if_else, try_then, case_of, Arms, last_arm, and_arm, Block, end_block, command_then, Group, Store, raise, Refusal, After, stay, and_then, value, tag, width_of, Home, site_of, guard, test, effect, attempt, attempt_then, select, branch, is_constant, run, run_arms, run_block, FineTerm, FineStep, FineCommand, Every, EveryInArms, EveryInBlock}
+use Rattle.sap_meaning.specs.Prelude.{within, listed, Step, assign, write, retag, retag_cell, go_to, fall_to_child, Command, lone, try, if_else, try_then, case_of, Arms, last_arm, and_arm, Block, end_block, command_then, Group, Store, raise, Refusal, After, stay, and_then, value, tag, width_of, Home, site_of, guard, test, effect, attempt, attempt_then, select, branch, is_constant, run, run_arms, run_block, FineTerm, FineStep, FineCommand, Every, EveryInArms, EveryInBlock}
 use Rattle.sap_ir.specs.Prelude.{Going, value_in, Body, stop, cases, body_does, follow}
 use Rattle.sap_ir.proofs.plain.SeatWidths.{seat_holds}
 use Rattle.sap_tagged.specs.Prelude.{value_key, tag_key, seat_key, refused_key, level_key, wire_key, Setting, var, lub, expr, tag_of, always, raises, looks, effect_of, refusal, outcome, attempt_of, outcome_then, attempt_then_of, arm_count, pick_width, picks, decides, pick_of, select_of, wires, wires_arms, wires_block, command_plain, arms_plain, block_plain, Few, FewArms, FewBlock, Lawful, at, Stands, refused_after, level_after, Turns}
@@ -67,7 +67,7 @@ module _ (d : Setting) (widths : Name → ℕ) (laws : Lawful d widths) (f : Goi
   module _ (q : Group) (sp : Home) (placed : Placed d.world q sp) (goes : GoesRun d go sp.parent q) (base : ℕ) (enter : ℕ → ℕ → Store
       → After) (falls : FallsRun d f base sp.state enter) where
     effect_turns : (k free : ℕ) (t : Step) (l : ℕ) (b r : Store) (g : Going) → free ≤ base → FineStep d.world q sp.children t → Begins d k sp t l b r g
-        → Turns d free g (body_does widths f go (effect_of d sp k t) g) (effect d.world sp enter t l b r)
+        → Turns d free g (body_does widths f go (effect_of d sp k t) g) (effect (within d.world sp enter) t l b r)
     effect_turns k free (assign site x e) l b r g fb fine h = set_effect d widths laws f go enter q k free sp site x e l b r g fine h
     effect_turns k free (write site m i e) l b r g fb fine h = write_effect d widths laws f go enter q k free sp site m i e l b r g fine h
     effect_turns k free (retag site x n) l b r g fb fine h = retag_effect d widths laws f go enter q k free sp site x n l b r g fine h
@@ -117,7 +117,7 @@ module _ (d : Setting) (widths : Name → ℕ) (laws : Lawful d widths) (f : Goi
         (g2, a.1 ∙ b.1, up.wire k ∙ look.tested, begins, quiet_next d k g g1 g2 look.quiet (raised_quiet d widths laws k g1 g2 up))
 
     attempt_runs : (p k : ℕ) (t : Step) (hang : ℕ → Bool) (h : Body) (m : ℕ → Store → After) → p < k → k ≤ base → FineStep d.world q sp.children t
-        → BodyRuns d widths f go (k + 2) (k + 5) h m → BodyRuns d widths f go p k (attempt_of d sp p k t hang h) (attempt d.world sp enter t hang m)
+        → BodyRuns d widths f go (k + 2) (k + 5) h m → BodyRuns d widths f go p k (attempt_of d sp p k t hang h) (attempt (within d.world sp enter) t hang m)
     unfolding attempt attempt_of
     attempt_runs p k t hang h m pk kb fine runs g s l st pc =
         let a = readied p k t hang (outcome d sp k t h) l s g pk fine st pc in
@@ -128,7 +128,7 @@ module _ (d : Setting) (widths : Name → ℕ) (laws : Lawful d widths) (f : Goi
 
     attempt_then_runs : (p k from later : ℕ) (t : Step) (hang : ℕ → Bool) (x h : Body) (mx m : ℕ → Store → After) → p < k → k + 5 ≤ from → k + 5 ≤ later → k + 5 ≤ base
         → FineStep d.world q sp.children t → BodyRuns d widths f go (k + 2) from x mx → BodyRuns d widths f go (k + 2) later h m
-        → BodyRuns d widths f go p k (attempt_then_of d sp p k t hang x h) (attempt_then d.world sp enter t hang mx m)
+        → BodyRuns d widths f go p k (attempt_then_of d sp p k t hang x h) (attempt_then (within d.world sp enter) t hang mx m)
     unfolding attempt_then attempt_then_of
     attempt_then_runs p k from later t hang x h mx m pk kx kh kb fine rx rh g s l st pc =
         let a = readied p k t hang (outcome_then d sp k t x h) l s g pk fine st pc in
@@ -136,7 +136,7 @@ module _ (d : Setting) (widths : Name → ℕ) (laws : Lawful d widths) (f : Goi
         let b = raise d.world.order hang (guard d.world sp t s) s in
         let inside = d.world.order.join l (guard d.world sp t s) in
         let g3 = body_does widths f go (effect_of d sp k t) g2 in
-        let done = effect d.world sp enter t l s b in
+        let done = effect (within d.world sp enter) t l s b in
         let e : Turns d (k + 5) g2 g3 done = effect_turns k (k + 5) t l s b g2 kb fine a.3 in
         let both : Turns d k g2 (body_does widths f go (follow (effect_of d sp k t) x) g2) (and_then done (mx inside)) =
         rw (does_follow d widths f go (effect_of d sp k t) x g2)
@@ -235,42 +235,42 @@ module _ (d : Setting) (widths : Name → ℕ) (laws : Lawful d widths) (f : Goi
       unfolding run run_arms run_block command_plain arms_plain block_plain
 
       pub command_runs : (c : Command) → Every (FineCommand d.world q sp.children) c → Few c → (p k : ℕ) → p < k → k + wires c ≤ base
-          → BodyRuns d widths f go p k (command_plain d sp p k c) (run d.world sp enter c)
+          → BodyRuns d widths f go p k (command_plain d sp p k c) (run (within d.world sp enter) c)
       command_runs (lone t) fine few p k pk kb =
           attempt_runs p k t _ stop (λ l s. stay s) pk (omega arith) fine (λ g s l st pc. turns_stay d (k + 5) g g s (quiet_none d (k + 5) g) st)
       command_runs (try t hang h) fine few p k pk kb =
-          attempt_runs p k t (listed hang) (block_plain d sp (k + 2) (k + 5) h) (run_block d.world sp enter h) pk (omega arith) fine.0
+          attempt_runs p k t (listed hang) (block_plain d sp (k + 2) (k + 5) h) (run_block (within d.world sp enter) h) pk (omega arith) fine.0
           (block_runs h fine.1 few.1 (k + 2) (k + 5) (omega arith) (omega arith))
       command_runs (if_else hang e a b) fine few p k pk kb =
-          select_runs p k e (listed hang) (block_plain d sp (k + 1) (k + 2) a) (block_plain d sp (k + 1) (k + 2 + wires_block a) b) (run_block d.world sp enter a)
-          (run_block d.world sp enter b) (k + 2) (k + 2 + wires_block a) pk (omega arith) (omega arith) fine.0
+          select_runs p k e (listed hang) (block_plain d sp (k + 1) (k + 2) a) (block_plain d sp (k + 1) (k + 2 + wires_block a) b) (run_block (within d.world sp enter) a)
+          (run_block (within d.world sp enter) b) (k + 2) (k + 2 + wires_block a) pk (omega arith) (omega arith) fine.0
           (block_runs a fine.1 few.1 (k + 1) (k + 2) (omega arith) (omega arith)) (block_runs b fine.2 few.2 (k + 1) (k + 2 + wires_block a) (omega arith) (omega arith))
       command_runs (try_then t hang a b) fine few p k pk kb =
           attempt_then_runs p k (k + 5) (k + 5 + wires_block a) t (listed hang) (block_plain d sp (k + 2) (k + 5) a) (block_plain d sp (k + 2) (k + 5 + wires_block a) b)
-          (run_block d.world sp enter a) (run_block d.world sp enter b) pk (omega arith) (omega arith) (omega arith) fine.0
+          (run_block (within d.world sp enter) a) (run_block (within d.world sp enter) b) pk (omega arith) (omega arith) (omega arith) fine.0
           (block_runs a fine.1 few.1 (k + 2) (k + 5) (omega arith) (omega arith)) (block_runs b fine.2 few.2 (k + 2) (k + 5 + wires_block a) (omega arith) (omega arith))
       command_runs (case_of hang e arms) fine few p k pk kb =
-          pick_runs p k e (listed hang) arms (arms_plain d sp (k + 1) (k + 4) arms) (run_arms d.world sp enter arms) pk fine.0 (blocks_counted (k + 1) (k + 4) arms)
+          pick_runs p k e (listed hang) arms (arms_plain d sp (k + 1) (k + 4) arms) (run_arms (within d.world sp enter) arms) pk fine.0 (blocks_counted (k + 1) (k + 4) arms)
           (blocks_hold (k + 1) (k + 4) arms few.0.0) (λ n. arms_run arms fine.1 few.1 (k + 1) (k + 4) (omega arith) (omega arith) n)
 
       -- the block that the number picks
       arms_run : (arms : Arms) → EveryInArms (FineCommand d.world q sp.children) arms → FewArms arms → (p k : ℕ) → p < k → k + wires_arms arms ≤ base → (n : ℕ)
-          → BodyRuns d widths f go p k (get_or (arms_plain d sp p k arms) (arm_place arms n) stop) (run_arms d.world sp enter arms n)
+          → BodyRuns d widths f go p k (get_or (arms_plain d sp p k arms) (arm_place arms n) stop) (run_arms (within d.world sp enter) arms n)
       arms_run (last_arm b) fine few p k pk kb n = block_runs b fine few p k pk kb
       arms_run (and_arm constants b arms) fine few p k pk kb n = elim (cases_Bool (is_constant constants n)) [
         | inl t ↦ rw t (block_runs b fine.0 few.0 p k pk (omega arith))
         | inr t ↦
             rw t
-            (runs_less p k (k + wires_block b) (get_or (arms_plain d sp p (k + wires_block b) arms) (arm_place arms n) stop) (run_arms d.world sp enter arms n) (omega arith)
+            (runs_less p k (k + wires_block b) (get_or (arms_plain d sp p (k + wires_block b) arms) (arm_place arms n) stop) (run_arms (within d.world sp enter) arms n) (omega arith)
             (arms_run arms fine.1 few.1 p (k + wires_block b) (omega arith) (omega arith) n))
       ]
 
       pub block_runs : (c : Block) → EveryInBlock (FineCommand d.world q sp.children) c → FewBlock c → (p k : ℕ) → p < k → k + wires_block c ≤ base
-          → BodyRuns d widths f go p k (block_plain d sp p k c) (run_block d.world sp enter c)
+          → BodyRuns d widths f go p k (block_plain d sp p k c) (run_block (within d.world sp enter) c)
       block_runs end_block fine few p k pk kb g s l st pc = turns_stay d k g g s (quiet_none d k g) st
       block_runs (command_then c cs) fine few p k pk kb g s l st pc =
           let r = command_runs c fine.0 few.0 p k pk (omega arith) g s l st pc in
           let g1 = body_does widths f go (command_plain d sp p k c) g in
           let t = block_runs cs fine.1 few.1 p (k + wires c) (omega arith) (omega arith) g1 _ l r.stands (r.kept p pk ∙ pc) in
           rw (does_follow d widths f go (command_plain d sp p k c) (block_plain d sp p (k + wires c) cs) g)
-          (turns_then d k (k + wires c) g g1 _ (run d.world sp enter c l s) (run_block d.world sp enter cs l) (omega arith) r t)
+          (turns_then d k (k + wires c) g g1 _ (run (within d.world sp enter) c l s) (run_block (within d.world sp enter) cs l) (omega arith) r t)

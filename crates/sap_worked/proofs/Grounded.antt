@@ -1,6 +1,6 @@
 -- The states of the ground design agree where finitely many facts hold.
 use Rattle.sap_lemmas.proofs.Common.{◌≡◌, ℕ, zero, suc, true, false, ◌⊎◌, sym, ◌∙◌, arith, nat_eq, common_steps}
-use Rattle.sap_meaning.specs.Prelude.{is_dynamic, is_register, is_memory, authority, Store, Slot, own, start, next, start_whole, next_whole, owner, held, level, Low, High, SlotsAlike, PartsAlike, active_path, StatesAgree, four_levels}
+use Rattle.sap_meaning.specs.Prelude.{start_part, next_part, is_dynamic, is_register, is_memory, authority, Store, Slot, own, start, next, start_whole, next_whole, owner, held, level, Low, High, SlotsAlike, PartsAlike, active_path, StatesAgree, four_levels}
 use Rattle.sap_worked.specs.Rows.{right}
 use Rattle.sap_worked.specs.Ground.{register_x, register_y, register_z, memory_m, memory_k, memory_h, state_p, state_d, state_e, state_q, ground, ground_world}
 use Rattle.sap_worked.proofs.Tested.{look_alike, paths_alike}
@@ -59,7 +59,7 @@ pub record Facts (l : ℕ) (s t : Store) : Type 0 where
   pub x : SlotsAlike ground_world l (own register_x) s t
   pub y : SlotsAlike ground_world l (own register_y) s t
   pub z : SlotsAlike ground_world l (own register_z) s t
-  pub m : PartsAlike ground_world l (start memory_m) (start_whole memory_m) s t × PartsAlike ground_world l (next memory_m) (next_whole memory_m) s t
+  pub m : PartsAlike ground_world l (start_part memory_m) s t × PartsAlike ground_world l (next_part memory_m) s t
   pub level_y : level ground_world (own register_y) s ≡ level ground_world (own register_y) t
   pub level_k : (i : ℕ) → level ground_world (start memory_k i) s ≡ level ground_world (start memory_k i) t
   pub next_level_k : (i : ℕ) → level ground_world (next memory_k i) s ≡ level ground_world (next memory_k i) t
@@ -89,7 +89,7 @@ agreed l s t cells facts = record {
   registers = entities (λ x. is_register ground_world x ≡ true → SlotsAlike ground_world l (own x) s t) (search (facts, alike));
   enforced_memories = λ m i. enforced (λ m. SlotsAlike ground_world l (start m i) s t × SlotsAlike ground_world l (next m i) s t) (cells.k i) (cells.h i) m;
   dynamic_memories = entities (λ m. is_memory ground_world m ≡ true → is_dynamic ground_world m ≡ true
-      → PartsAlike ground_world l (start m) (start_whole m) s t × PartsAlike ground_world l (next m) (next_whole m) s t) (search (facts, both));
+      → PartsAlike ground_world l (start_part m) s t × PartsAlike ground_world l (next_part m) s t) (search (facts, both));
   enforced_levels = levels l s t facts;
   paths = paths_alike ground_world l _ _ facts.paths;
 }

@@ -4,7 +4,7 @@ use Rattle.sap_maps.specs.Term.{read}
 use Rattle.sap_meaning.specs.Program.{World, Step, Block, last_arm, and_arm, case_of, assign, lone, try, try_then, end_block, command_then, state_node, no_node, and_node, Program}
 use Rattle.sap_meaning.specs.Store.{Store, After, own}
 use Rattle.sap_meaning.specs.Checks.{Home}
-use Rattle.sap_meaning.specs.Does.{does}
+use Rattle.sap_meaning.specs.Does.{within, does}
 use Rattle.sap_meaning.specs.Examples.{four_levels, an_input, a_register, held_register, held_state, at_level, refused_at, program_of, loop}
 use Rattle.sap_worked.specs.Rows.{low, left, right, high, put, goes, Look, row, rows}
 
@@ -110,4 +110,4 @@ FirstArm = rows repeated two_registers ((at_level left 1 ∷ []) ∷ (at_level l
 abbrev pub NothingBehind : Type 0
 NothingBehind = (w : World) (at : Home) (enter : ℕ → ℕ → Store
     → After) (k : Step) (hang : List Bool) (h : Block) (pc : ℕ) (s : Store)
-    → does w at enter (try k hang h) pc s ≡ does w at enter (try_then k hang end_block h) pc s
+    → does (within w at enter) (try k hang h) pc s ≡ does (within w at enter) (try_then k hang end_block h) pc s

@@ -2,7 +2,7 @@
 use Rattle.sap_lemmas.proofs.Common.{◌≡◌, ℕ, zero, suc, Bool, true, false, List, [], ◌∷◌, ◌++◌, append_assoc, nat_eq, refl, sym, ap, ◌∙◌, subst, if◌then◌else◌, append-nil}
 use Rattle.sap_meaning.proofs.SitesLemmas.{sublist_append, sublist_behind, sublist_between, sublist_front}
 use Rattle.sap_maps.specs.Term.{Term}
-use Rattle.sap_meaning.specs.Prelude.{World, root, Program, Step, fall_to_child, Command, lone, try, if_else, try_then, case_of, Arms, last_arm, and_arm, Block, end_block, command_then, State, state_node, Group, no_node, and_node, Store, child, raise, value, tag, Home, guard, test, touches, root_touches, raised_alone, does, does_child, effect, is_constant, Tagged, set_inputs, transfers, Open, Closes, Final, ClosingArms, FineState, FineGroup, FineProgram, NoTransfer, Sublist, EveryInArms, EveryInBlock}
+use Rattle.sap_meaning.specs.Prelude.{within, World, root, Program, Step, fall_to_child, Command, lone, try, if_else, try_then, case_of, Arms, last_arm, and_arm, Block, end_block, command_then, State, state_node, Group, no_node, and_node, Store, child, raise, value, tag, Home, guard, test, touches, root_touches, raised_alone, does, does_child, effect, is_constant, Tagged, set_inputs, transfers, Open, Closes, Final, ClosingArms, FineState, FineGroup, FineProgram, NoTransfer, Sublist, EveryInArms, EveryInBlock}
 use Rattle.sap_secure.specs.Once.Steps.{onward, tried, tried_then, picked, chosen, steps, arms_steps, block_steps, state_steps, child_steps, root_steps, cycle_steps}
 use Rattle.sap_secure.specs.CheckSites.Once.{own_site, sites_met}
 use Rattle.sap_secure.proofs.check_sites.Sublists.{same, none}
@@ -61,7 +61,7 @@ module _ (w : World) where
         let r = raise w.order hangs (guard w at k s) s in
         let inside = w.order.join pc (guard w at k s) in
         let on = onward w at entered k pc s r in
-        let next = (effect w at (does_child w at.children at.state) k pc s r).store in
+        let next = (effect (within w at (does_child w at.children at.state)) k pc s r).store in
         sublist_append (own_site k) (own_site k) (sites_met (if test w at k pc s then on ++ f inside next else g inside r)) zs (same (own_site k))
         (either (test w at k pc s) (on ++ f inside next) (g inside r) zs (behind on (f inside next) [] zs (onward_none k plain pc s r) (accepted inside next)) (refused inside r))
 
@@ -100,7 +100,7 @@ module _ (w : World) where
       open_list : (b : Block) → EveryInBlock NoTransfer b → (pc : ℕ) (s : Store) → From (block_steps w at entered b pc s) (block_marks b)
       open_list end_block plain pc s = tt
       open_list (command_then c cs) plain pc s =
-          behind (steps w at entered c pc s) (block_steps w at entered cs pc (does w at (does_child w at.children at.state) c pc s).store) (marks c)
+          behind (steps w at entered c pc s) (block_steps w at entered cs pc (does (within w at (does_child w at.children at.state)) c pc s).store) (marks c)
           (block_marks cs) (open_from c plain.0 pc s) (open_list cs plain.1 pc _)
 
     mutual
@@ -144,7 +144,7 @@ module _ (w : World) where
           subst (λ (ys : List ℕ). Sublist ys ((marks c ++ []) ++ below)) (sym (met-append (steps w at entered c pc s) [] ∙ append-nil (sites_met (steps w at entered c pc s))))
           (subst (λ (ys : List ℕ). Sublist (sites_met (steps w at entered c pc s)) (ys ++ below)) (sym (append-nil (marks c))) (final_from c closes pc s))
       closing_from (command_then c (command_then d ds)) closes pc s =
-          let after = (does w at (does_child w at.children at.state) c pc s).store in
+          let after = (does (within w at (does_child w at.children at.state)) c pc s).store in
           subst (λ (ys : List ℕ). From (steps w at entered c pc s ++ block_steps w at entered (command_then d ds) pc after) ys)
           (sym (append_assoc (marks c) (block_marks (command_then d ds)) below))
           (behind (steps w at entered c pc s) (block_steps w at entered (command_then d ds) pc after) (marks c) (block_marks (command_then d ds) ++ below)

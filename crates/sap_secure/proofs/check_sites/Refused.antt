@@ -2,7 +2,7 @@
 use Rattle.sap_lemmas.proofs.Common.{◌≡◌, ℕ, zero, suc, ◌≤◌, Bool, true, false, List, [], ◌∷◌, ◌++◌, map, nat_eq, refl, arith, inl, inr, if◌then◌else◌, ne_eqb, map-append}
 use Rattle.sap_meaning.proofs.SitesLemmas.{sublist_append, sublist_behind}
 use Rattle.sap_maps.specs.Term.{Term}
-use Rattle.sap_meaning.specs.Prelude.{World, root, Program, Step, fall_to_child, Command, lone, try, if_else, try_then, case_of, Arms, last_arm, and_arm, Block, end_block, command_then, State, state_node, Group, no_node, and_node, own, Store, level, child, raise, Refusal, After, stay, and_then, value, tag, Home, site_of, guard, test, touches, root_touches, raised_alone, effect, attempt, attempt_then, select, branch, is_constant, does, does_arms, does_block, does_state, does_child, Tagged, set_inputs, root_fall, cycle, refused_sites, Sublist, RisesFrom}
+use Rattle.sap_meaning.specs.Prelude.{within, World, root, Program, Step, fall_to_child, Command, lone, try, if_else, try_then, case_of, Arms, last_arm, and_arm, Block, end_block, command_then, State, state_node, Group, no_node, and_node, own, Store, level, child, raise, Refusal, After, stay, and_then, value, tag, Home, site_of, guard, test, touches, root_touches, raised_alone, effect, attempt, attempt_then, select, branch, is_constant, does, does_arms, does_block, does_state, does_child, Tagged, set_inputs, root_fall, cycle, refused_sites, Sublist, RisesFrom}
 use Rattle.sap_secure.specs.Once.Steps.{onward, tried, tried_then, picked, chosen, steps, arms_steps, block_steps, state_steps, child_steps, root_steps, cycle_steps}
 use Rattle.sap_secure.specs.CheckSites.Once.{own_site, sites_met}
 
@@ -37,28 +37,28 @@ one_of false ks js p q h g = g
 
 module _ (w : World) where
   module _ (at : Home) (entered : ℕ → ℕ → Store → List Step) (below : (n : ℕ) → EachAmong (entered n) (does_child w at.children at.state n)) where
-    effect_among : (k : Step) (pc : ℕ) (b s : Store) → Among (effect w at (does_child w at.children at.state) k pc b s) (onward w at entered k pc b s)
+    effect_among : (k : Step) (pc : ℕ) (b s : Store) → Among (effect (within w at (does_child w at.children at.state)) k pc b s) (onward w at entered k pc b s)
     unfolding effect
     effect_among (fall_to_child site hang) pc b s = below _ _ s
     effect_among _ pc b s = tt
 
     attempt_among : (k : Step) (hangs : ℕ → Bool) (f : ℕ → Store → List Step) (h : ℕ → Store → After) → EachAmong f h
-        → EachAmong (tried w at entered k hangs f) (attempt w at (does_child w at.children at.state) k hangs h)
+        → EachAmong (tried w at entered k hangs f) (attempt (within w at (does_child w at.children at.state)) k hangs h)
     unfolding tried attempt
     attempt_among k hangs f h c pc s =
         let r = raise w.order hangs (guard w at k s) s in
         let inside = w.order.join pc (guard w at k s) in
-        either k (test w at k pc s) inside (onward w at entered k pc s r) (f inside r) (effect w at (does_child w at.children at.state) k pc s r) (h inside r)
+        either k (test w at k pc s) inside (onward w at entered k pc s r) (f inside r) (effect (within w at (does_child w at.children at.state)) k pc s r) (h inside r)
         (effect_among k pc s r) (c inside r)
 
     attempt_then_among : (k : Step) (hangs : ℕ → Bool) (f g : ℕ → Store → List Step) (a h : ℕ → Store → After) → EachAmong f a → EachAmong g h
-        → EachAmong (tried_then w at entered k hangs f g) (attempt_then w at (does_child w at.children at.state) k hangs a h)
+        → EachAmong (tried_then w at entered k hangs f g) (attempt_then (within w at (does_child w at.children at.state)) k hangs a h)
     unfolding tried_then attempt_then
     attempt_then_among k hangs f g a h c d pc s =
         let r = raise w.order hangs (guard w at k s) s in
         let inside = w.order.join pc (guard w at k s) in
         let on = onward w at entered k pc s r in
-        let done = effect w at (does_child w at.children at.state) k pc s r in
+        let done = effect (within w at (does_child w at.children at.state)) k pc s r in
         either k (test w at k pc s) inside (on ++ f inside done.store) (g inside r) (and_then done (a inside)) (h inside r)
         (both done.refused (a inside done.store).refused on (f inside done.store) (effect_among k pc s r) (c inside done.store)) (d inside r)
 
@@ -78,30 +78,30 @@ module _ (w : World) where
     mutual
       unfolding steps arms_steps block_steps does does_arms does_block
 
-      does_among : (c : Command) → EachAmong (steps w at entered c) (does w at (does_child w at.children at.state) c)
+      does_among : (c : Command) → EachAmong (steps w at entered c) (does (within w at (does_child w at.children at.state)) c)
       does_among (lone k) pc s = attempt_among k (raised_alone w at k) (λ pc s. []) (λ pc s. stay s) (λ pc s. tt) pc s
       does_among (try k hang h) pc s =
-          attempt_among k (touches w at (try k hang h)) (block_steps w at entered h) (does_block w at (does_child w at.children at.state) h) (block_among h) pc s
+          attempt_among k (touches w at (try k hang h)) (block_steps w at entered h) (does_block (within w at (does_child w at.children at.state)) h) (block_among h) pc s
       does_among (if_else hang e a b) pc s =
           select_among e (touches w at (if_else hang e a b)) (block_steps w at entered a) (block_steps w at entered b)
-          (does_block w at (does_child w at.children at.state) a) (does_block w at (does_child w at.children at.state) b) (block_among a) (block_among b) pc s
+          (does_block (within w at (does_child w at.children at.state)) a) (does_block (within w at (does_child w at.children at.state)) b) (block_among a) (block_among b) pc s
       does_among (try_then k hang a b) pc s =
           attempt_then_among k (touches w at (try_then k hang a b)) (block_steps w at entered a) (block_steps w at entered b)
-          (does_block w at (does_child w at.children at.state) a) (does_block w at (does_child w at.children at.state) b) (block_among a) (block_among b) pc s
+          (does_block (within w at (does_child w at.children at.state)) a) (does_block (within w at (does_child w at.children at.state)) b) (block_among a) (block_among b) pc s
       does_among (case_of hang e arms) pc s =
-          pick_among e (touches w at (case_of hang e arms)) (arms_steps w at entered arms) (does_arms w at (does_child w at.children at.state) arms) (arms_among arms) pc s
+          pick_among e (touches w at (case_of hang e arms)) (arms_steps w at entered arms) (does_arms (within w at (does_child w at.children at.state)) arms) (arms_among arms) pc s
 
-      arms_among : (arms : Arms) (v : ℕ) → EachAmong (arms_steps w at entered arms v) (does_arms w at (does_child w at.children at.state) arms v)
+      arms_among : (arms : Arms) (v : ℕ) → EachAmong (arms_steps w at entered arms v) (does_arms (within w at (does_child w at.children at.state)) arms v)
       arms_among (last_arm b) v pc s = block_among b pc s
       arms_among (and_arm cs b arms) v pc s =
-          one_of (is_constant cs v) (block_steps w at entered b pc s) (arms_steps w at entered arms v pc s) (does_block w at (does_child w at.children at.state) b pc s)
-          (does_arms w at (does_child w at.children at.state) arms v pc s) (block_among b pc s) (arms_among arms v pc s)
+          one_of (is_constant cs v) (block_steps w at entered b pc s) (arms_steps w at entered arms v pc s) (does_block (within w at (does_child w at.children at.state)) b pc s)
+          (does_arms (within w at (does_child w at.children at.state)) arms v pc s) (block_among b pc s) (arms_among arms v pc s)
 
-      pub block_among : (b : Block) → EachAmong (block_steps w at entered b) (does_block w at (does_child w at.children at.state) b)
+      pub block_among : (b : Block) → EachAmong (block_steps w at entered b) (does_block (within w at (does_child w at.children at.state)) b)
       block_among end_block pc s = tt
       block_among (command_then c cs) pc s =
-          let done = does w at (does_child w at.children at.state) c pc s in
-          both done.refused (does_block w at (does_child w at.children at.state) cs pc done.store).refused (steps w at entered c pc s) (block_steps w at entered cs pc done.store)
+          let done = does (within w at (does_child w at.children at.state)) c pc s in
+          both done.refused (does_block (within w at (does_child w at.children at.state)) cs pc done.store).refused (steps w at entered c pc s) (block_steps w at entered cs pc done.store)
           (does_among c pc s) (block_among cs pc done.store)
 
   mutual

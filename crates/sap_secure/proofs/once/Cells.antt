@@ -1,7 +1,7 @@
 -- The steps that a cycle comes to tell which cells it may change.
 use Rattle.sap_lemmas.proofs.Common.{◌≡◌, ℕ, zero, suc, ◌+◌, ◌≤◌, Bool, true, false, ◌&&◌, List, [], ◌∷◌, ◌++◌, refl, sym, ◌∙◌, subst, arith, inl, inr, nat_eq, if◌then◌else◌, cases_Bool, ne_eqb}
 use Rattle.sap_maps.specs.Term.{Term}
-use Rattle.sap_meaning.specs.Prelude.{World, is_dynamic, root, place, Program, Step, assign, write, retag, retag_cell, go_to, fall_to_child, Command, lone, try, if_else, try_then, case_of, Arms, last_arm, and_arm, Block, end_block, command_then, State, state_node, Group, no_node, and_node, own, start, next, start_whole, next_whole, source, Store, number, level, child, put_number, put_level, put_child, raise, reset, settle, After, stay, and_then, value, tag, new_level, Home, guard, test, touches, root_touches, raised_alone, effect, attempt, attempt_then, select, branch, is_constant, does, does_arms, does_block, does_state, does_child, Tagged, set_inputs, root_fall, cycle, Resting, step_writes}
+use Rattle.sap_meaning.specs.Prelude.{within, World, is_dynamic, root, place, Program, Step, assign, write, retag, retag_cell, go_to, fall_to_child, Command, lone, try, if_else, try_then, case_of, Arms, last_arm, and_arm, Block, end_block, command_then, State, state_node, Group, no_node, and_node, own, start, next, start_whole, next_whole, source, Store, number, level, child, put_number, put_level, put_child, raise, reset, settle, After, stay, and_then, value, tag, new_level, Home, guard, test, touches, root_touches, raised_alone, effect, attempt, attempt_then, select, branch, is_constant, does, does_arms, does_block, does_state, does_child, Tagged, set_inputs, root_fall, cycle, Resting, step_writes}
 use Rattle.sap_secure.specs.Once.Steps.{onward, tried, tried_then, picked, chosen, steps, arms_steps, block_steps, state_steps, child_steps, root_steps, cycle_steps}
 use Rattle.sap_secure.specs.Once.Once.{writes_to, CellStays, WritesOnce, UnwrittenStays, ChangesOneCell}
 use Rattle.sap_secure.proofs.once.Counts.{writing, writes_to-cons, writes_to-append, split_one}
@@ -91,7 +91,7 @@ module _ (w : World) (m : ℕ) (at : Home) (entered : ℕ → ℕ → Store → 
 
   -- an effect on the store s
   effect_tracked : (k : Step) (pc : ℕ) (b s : Store)
-      → Tracked m (writing m k + writes_to m (onward w at entered k pc b s)) s (effect w at (does_child w at.children at.state) k pc b s).store
+      → Tracked m (writing m k + writes_to m (onward w at entered k pc b s)) s (effect (within w at (does_child w at.children at.state)) k pc b s).store
   unfolding effect
   effect_tracked (assign site x e) pc b s = tracked_all m _ s _ (λ j. own_same w m x _ _ s j)
   effect_tracked (write site n i e) pc b s =
@@ -113,13 +113,13 @@ module _ (w : World) (m : ℕ) (at : Home) (entered : ℕ → ℕ → Store → 
   either k false xs ys s p q c d = tracked_as m _ (writing m k + writes_to m ys) s q.store (writes_to-cons m k ys) d
 
   attempt_tracked : (k : Step) (hangs : ℕ → Bool) (f : ℕ → Store → List Step) (h : ℕ → Store → After) → EachTracked m f h
-      → EachTracked m (tried w at entered k hangs f) (attempt w at (does_child w at.children at.state) k hangs h)
+      → EachTracked m (tried w at entered k hangs f) (attempt (within w at (does_child w at.children at.state)) k hangs h)
   unfolding tried attempt
   attempt_tracked k hangs f h c pc s =
       let g = guard w at k s in
       let r = raise w.order hangs g s in
       let inside = w.order.join pc g in
-      either k (test w at k pc s) (onward w at entered k pc s r) (f inside r) s (effect w at (does_child w at.children at.state) k pc s r) _
+      either k (test w at k pc s) (onward w at entered k pc s r) (f inside r) s (effect (within w at (does_child w at.children at.state)) k pc s r) _
       (behind_raise w m _ hangs g s _ (effect_tracked k pc s r))
       (behind_raise w m _ hangs g s (h inside r).store
       (tracked_both m (writing m k) (writes_to m (f inside r)) r r (h inside r).store (tracked_all m _ r r (λ j. (refl, refl))) (c inside r)))
@@ -139,14 +139,14 @@ module _ (w : World) (m : ℕ) (at : Home) (entered : ℕ → ℕ → Store → 
       behind_raise w m _ hangs t s _ (one_of (nat_eq (value w e s) 0) (f inside r) (g inside r) r (a inside r) (b inside r) (c inside r) (d inside r))
 
   attempt_then_tracked : (k : Step) (hangs : ℕ → Bool) (f g : ℕ → Store → List Step) (a h : ℕ → Store → After) → EachTracked m f a → EachTracked m g h
-      → EachTracked m (tried_then w at entered k hangs f g) (attempt_then w at (does_child w at.children at.state) k hangs a h)
+      → EachTracked m (tried_then w at entered k hangs f g) (attempt_then (within w at (does_child w at.children at.state)) k hangs a h)
   unfolding tried_then attempt_then
   attempt_then_tracked k hangs f g a h c d pc s =
       let v = guard w at k s in
       let r = raise w.order hangs v s in
       let inside = w.order.join pc v in
       let on = onward w at entered k pc s r in
-      let done = effect w at (does_child w at.children at.state) k pc s r in
+      let done = effect (within w at (does_child w at.children at.state)) k pc s r in
       let sum : writes_to m (on ++ f inside done.store) ≡ writes_to m on + writes_to m (f inside done.store) = writes_to-append m on (f inside done.store) in
       either k (test w at k pc s) (on ++ f inside done.store) (g inside r) s (and_then done (a inside)) _
       (behind_raise w m _ hangs v s _
@@ -163,30 +163,30 @@ module _ (w : World) (m : ℕ) (at : Home) (entered : ℕ → ℕ → Store → 
   mutual
     unfolding steps arms_steps block_steps does does_arms does_block
 
-    does_tracked : (c : Command) → EachTracked m (steps w at entered c) (does w at (does_child w at.children at.state) c)
+    does_tracked : (c : Command) → EachTracked m (steps w at entered c) (does (within w at (does_child w at.children at.state)) c)
     does_tracked (lone k) pc s =
         attempt_tracked k (raised_alone w at k) (λ pc s. []) (λ pc s. stay s) (λ pc s. tracked_all m _ s s (λ j. (refl, refl))) pc s
     does_tracked (try k hang h) pc s =
-        attempt_tracked k (touches w at (try k hang h)) (block_steps w at entered h) (does_block w at (does_child w at.children at.state) h) (block_tracked h) pc s
+        attempt_tracked k (touches w at (try k hang h)) (block_steps w at entered h) (does_block (within w at (does_child w at.children at.state)) h) (block_tracked h) pc s
     does_tracked (if_else hang e a b) pc s =
         select_tracked e (touches w at (if_else hang e a b)) (block_steps w at entered a) (block_steps w at entered b)
-        (does_block w at (does_child w at.children at.state) a) (does_block w at (does_child w at.children at.state) b) (block_tracked a) (block_tracked b) pc s
+        (does_block (within w at (does_child w at.children at.state)) a) (does_block (within w at (does_child w at.children at.state)) b) (block_tracked a) (block_tracked b) pc s
     does_tracked (try_then k hang a b) pc s =
         attempt_then_tracked k (touches w at (try_then k hang a b)) (block_steps w at entered a) (block_steps w at entered b)
-        (does_block w at (does_child w at.children at.state) a) (does_block w at (does_child w at.children at.state) b) (block_tracked a) (block_tracked b) pc s
+        (does_block (within w at (does_child w at.children at.state)) a) (does_block (within w at (does_child w at.children at.state)) b) (block_tracked a) (block_tracked b) pc s
     does_tracked (case_of hang e arms) pc s =
-        pick_tracked e (touches w at (case_of hang e arms)) (arms_steps w at entered arms) (does_arms w at (does_child w at.children at.state) arms) (arms_tracked arms) pc s
+        pick_tracked e (touches w at (case_of hang e arms)) (arms_steps w at entered arms) (does_arms (within w at (does_child w at.children at.state)) arms) (arms_tracked arms) pc s
 
-    arms_tracked : (arms : Arms) (v : ℕ) → EachTracked m (arms_steps w at entered arms v) (does_arms w at (does_child w at.children at.state) arms v)
+    arms_tracked : (arms : Arms) (v : ℕ) → EachTracked m (arms_steps w at entered arms v) (does_arms (within w at (does_child w at.children at.state)) arms v)
     arms_tracked (last_arm b) v pc s = block_tracked b pc s
     arms_tracked (and_arm cs b arms) v pc s =
-        one_of (is_constant cs v) (arms_steps w at entered arms v pc s) (block_steps w at entered b pc s) s (does_arms w at (does_child w at.children at.state) arms v pc s)
-        (does_block w at (does_child w at.children at.state) b pc s) (arms_tracked arms v pc s) (block_tracked b pc s)
+        one_of (is_constant cs v) (arms_steps w at entered arms v pc s) (block_steps w at entered b pc s) s (does_arms (within w at (does_child w at.children at.state)) arms v pc s)
+        (does_block (within w at (does_child w at.children at.state)) b pc s) (arms_tracked arms v pc s) (block_tracked b pc s)
 
-    pub block_tracked : (b : Block) → EachTracked m (block_steps w at entered b) (does_block w at (does_child w at.children at.state) b)
+    pub block_tracked : (b : Block) → EachTracked m (block_steps w at entered b) (does_block (within w at (does_child w at.children at.state)) b)
     block_tracked end_block pc s = tracked_all m _ s s (λ j. (refl, refl))
     block_tracked (command_then c cs) pc s =
-        let t = (does w at (does_child w at.children at.state) c pc s).store in
+        let t = (does (within w at (does_child w at.children at.state)) c pc s).store in
         tracked_as m _ (writes_to m (steps w at entered c pc s) + writes_to m (block_steps w at entered cs pc t)) s _
         (writes_to-append m (steps w at entered c pc s) (block_steps w at entered cs pc t))
         (tracked_both m _ _ s t _ (does_tracked c pc s) (block_tracked cs pc t))

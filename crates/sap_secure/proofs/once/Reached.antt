@@ -1,7 +1,7 @@
 -- In a fine program at most one step that a cycle comes to writes a memory.
 use Rattle.sap_lemmas.proofs.Common.{◌≡◌, ℕ, zero, suc, ◌+◌, ◌≤◌, Bool, true, false, ◌&&◌, ◌||◌, List, [], ◌∷◌, ◌++◌, refl, sym, ◌∙◌, arith, inl, inr, nat_eq, if◌then◌else◌, cases_Bool, false_from_ne_true, or_from, neither_left, neither_right}
 use Rattle.sap_maps.specs.Term.{Term}
-use Rattle.sap_meaning.specs.Prelude.{World, root, Program, Step, write, retag_cell, fall_to_child, Command, lone, try, if_else, try_then, case_of, Arms, last_arm, and_arm, Block, end_block, command_then, State, state_node, Group, no_node, and_node, Store, own, level, child, raise, value, tag, Home, guard, test, touches, root_touches, raised_alone, does, does_child, effect, is_constant, set_inputs, FineProgram, step_writes, step_reaching, reaching, arms_reaching, block_reaching, state_reaches, group_reaches, OnceStep, Once, OnceArms, OnceBlock, OnceState, OnceGroup}
+use Rattle.sap_meaning.specs.Prelude.{within, World, root, Program, Step, write, retag_cell, fall_to_child, Command, lone, try, if_else, try_then, case_of, Arms, last_arm, and_arm, Block, end_block, command_then, State, state_node, Group, no_node, and_node, Store, own, level, child, raise, value, tag, Home, guard, test, touches, root_touches, raised_alone, does, does_child, effect, is_constant, set_inputs, FineProgram, step_writes, step_reaching, reaching, arms_reaching, block_reaching, state_reaches, group_reaches, OnceStep, Once, OnceArms, OnceBlock, OnceState, OnceGroup}
 use Rattle.sap_meaning.proofs.Bools.{and_false}
 use Rattle.sap_secure.specs.Once.Steps.{onward, tried, tried_then, picked, chosen, steps, arms_steps, block_steps, state_steps, child_steps, root_steps, cycle_steps}
 use Rattle.sap_secure.specs.Once.Once.{writes_to, WritesOnce}
@@ -113,7 +113,7 @@ module _ (w : World) (m : ℕ) (at : Home) (entered : ℕ → ℕ → Store → 
   then_counted k once a b apart other hangs f g c d pc s =
       let r = raise w.order hangs (guard w at k s) s in
       let inside = w.order.join pc (guard w at k s) in
-      let next = (effect w at (does_child w at.children at.state) k pc s r).store in
+      let next = (effect (within w at (does_child w at.children at.state)) k pc s r).store in
       one_of (test w at k pc s) (onward w at entered k pc s r) (f inside next) (g inside r) (onward_counted k once pc s r) (onward_nothing k pc s r) (c inside next) (d inside r)
     where
       mine : Bool
@@ -170,7 +170,7 @@ module _ (w : World) (m : ℕ) (at : Home) (entered : ℕ → ℕ → Store → 
     block_counted end_block once pc s = counted_nothing m
     block_counted (command_then c cs) once pc s =
         counted_both m (reaching (group_reaches at.children) c m) (block_reaching (group_reaches at.children) cs m) (steps w at entered c pc s)
-        (block_steps w at entered cs pc (does w at (does_child w at.children at.state) c pc s).store) (steps_counted c once.0 pc s)
+        (block_steps w at entered cs pc (does (within w at (does_child w at.children at.state)) c pc s).store) (steps_counted c once.0 pc s)
         (block_counted cs once.1 pc _) (once.2 m)
 
 module _ (w : World) (m : ℕ) where

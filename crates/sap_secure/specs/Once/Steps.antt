@@ -7,7 +7,7 @@ use Rattle.sap_meaning.specs.Store.{Store, own, level, child, raise}
 use Rattle.sap_meaning.specs.Expressions.{value, tag}
 use Rattle.sap_meaning.specs.Checks.{Home, child_level, guard, test}
 use Rattle.sap_meaning.specs.Touches.{touches, root_touches, raised_alone}
-use Rattle.sap_meaning.specs.Does.{does, does_child, effect, is_constant}
+use Rattle.sap_meaning.specs.Does.{within, does, does_child, effect, is_constant}
 use Rattle.sap_meaning.specs.Cycle.{Tagged, set_inputs}
 
 -- What comes after a step whose test held in `before`: for a fall the steps of the current child's body, `entered n`
@@ -40,7 +40,7 @@ tried_then w at entered k hangs accepted refused pc s =
     let inside = w.order.join pc g in
     k ∷ (if test w at k pc s
     then onward w at entered k pc s r ++ accepted inside
-    (effect w at (does_child w at.children at.state) k pc s r).store
+    (effect (within w at (does_child w at.children at.state)) k pc s r).store
     else refused inside r)
 
 -- The steps that the number of an expression picks.
@@ -84,7 +84,7 @@ unfoldable mutual
   block_steps w at entered end_block pc s = []
   block_steps w at entered (command_then c cs) pc s =
       steps w at entered c pc s ++ block_steps w at entered cs pc
-      (does w at (does_child w at.children at.state) c pc s).store
+      (does (within w at (does_child w at.children at.state)) c pc s).store
 
 unfoldable mutual
   -- Of a state's body.
