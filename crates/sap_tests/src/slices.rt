@@ -1,6 +1,6 @@
 //! The time-sliced machine: its design, and what two users do by the instruction table.
 
-use crate::lattice::DIAMOND;
+use crate::given::DIAMOND;
 use sap_check::check::check;
 use sap_cpu::assemble::assemble;
 use sap_cpu::cpu::Cpu;
@@ -83,10 +83,7 @@ fn shows(cpu: &Cpu, user: User, pc: u64, acc: u64) -> bool {
 }
 
 // A word is 256 times the instruction and its number: `ldi` is 1, `st` 3, `add` 4 and `halt` 8.
-fn are_words_of_a(words: &Words) -> bool {
-    let wanted: [u16; 16] = [261, 769, 1025, 2048, 0, 0, 0, 0, 0, 0, 0, 0, 0, 0, 0, 0];
-    words.as_array().as_slice() == wanted.as_slice()
-}
+const WORDS_OF_A: [u16; 16] = [261, 769, 1025, 2048, 0, 0, 0, 0, 0, 0, 0, 0, 0, 0, 0, 0];
 
 // A slice is three instructions. In the first a does `ldi 5`, `st 1` and `add 1`; in the second b does `ldi 7`, and stays at
 // its `halt`; in the third a stays at its own.
@@ -103,17 +100,15 @@ fn slices_as_told(a: &Words, b: &Words) -> bool {
     begins && first && second && third && cells
 }
 
-fn assembles_and_slices() -> bool {
-    match (
-        assemble(b"ldi 5\nst 1\nadd 1\nhalt\n"),
-        assemble(b"ldi 7\nhalt\n"),
-    ) {
-        (Ok(a), Ok(b)) => are_words_of_a(&a) && slices_as_told(&a, &b),
-        _ => false,
-    }
-}
-
 #[test]
 fn two_users_do_three_instructions_a_slice(rt: HostRuntime) {
-    assert!(rt; assembles_and_slices());
+    let (Ok(a), Ok(b)) = (
+        assemble(b"ldi 5\nst 1\nadd 1\nhalt\n"),
+        assemble(b"ldi 7\nhalt\n"),
+    ) else {
+        assert!(rt; false);
+        return;
+    };
+    assert!(rt; a.as_array().as_slice() == WORDS_OF_A.as_slice());
+    assert!(rt; slices_as_told(&a, &b));
 }

@@ -8,7 +8,7 @@ ghost use Rattle.sap_meaning.specs.State.{InputsFit};
 ghost use Rattle.sap_resolved.specs.Worlds.{world_of};
 ghost use Rattle.sap_trace.specs.Shows.{IsSteppedOn, StepsShowRefused};
 
-use crate::lattice::TWO;
+use crate::given::TWO;
 use sap_check::Checked;
 use sap_compile::compile;
 use sap_cycle::runner::Runner;
@@ -96,7 +96,11 @@ fn a_runner_tells_what_its_last_cycle_refused(rt: HostRuntime) {
     assert!(rt; compiles_and_tells_refusals(rt.alloc()));
 }
 
-fn tells_a_site(alloc: Global, checked: &Checked) -> Result<bool, AllocError> {
+fn tells_a_site(alloc: Global) -> Result<bool, AllocError> {
+    let Ok(compiled) = compile(alloc, TWO, KEEPS_LOW) else {
+        return Ok(false);
+    };
+    let checked = compiled.checked();
     let Some(room) = site_room(checked) else {
         return Ok(false);
     };
@@ -108,14 +112,7 @@ fn tells_a_site(alloc: Global, checked: &Checked) -> Result<bool, AllocError> {
     Ok(line.bytes() == b"cycle 12: site 1 write y at high\n".as_slice())
 }
 
-fn compiles_and_tells_a_site(alloc: Global) -> bool {
-    match compile(alloc, TWO, KEEPS_LOW) {
-        Ok(compiled) => matches!(tells_a_site(alloc, compiled.checked()), Ok(true)),
-        Err(_) => false,
-    }
-}
-
 #[test]
 fn a_site_has_a_line(rt: HostRuntime) {
-    assert!(rt; compiles_and_tells_a_site(rt.alloc()));
+    assert!(rt; matches!(tells_a_site(rt.alloc()), Ok(true)));
 }

@@ -1,7 +1,7 @@
 //! The layout of printed modules, and what a runner doesn't answer.
 
+use crate::given::is_printed_as;
 use sap_cycle::runner::Runner;
-use sap_vprint::print;
 use sap_vread::read;
 use std::alloc::Global;
 
@@ -49,57 +49,41 @@ always @(posedge clk) if (1'd1) e[2'd3] <= b;
 endmodule
 ";
 
-fn is_printed_as(alloc: Global, given: &str, printed: &str) -> bool {
-    let Ok(netlist) = read(alloc, given.as_bytes()) else {
-        return false;
-    };
-    match print(alloc, &netlist) {
-        Ok(text) => text.as_slice() == printed.as_bytes(),
+const MODULES: [(&str, &str); 2] = [(TWO_REGISTERS, TWO_REGISTERS_PRINTED), (SUMMING, SUMMING)];
+
+fn is_laid_out_as(alloc: Global, module: &str, text: &str) -> bool {
+    match read(alloc, module.as_bytes()) {
+        Ok(netlist) => is_printed_as(alloc, &netlist, text),
         Err(_) => false,
     }
 }
 
 #[test]
 fn a_module_is_printed_in_one_layout(rt: HostRuntime) {
-    assert!(rt; is_printed_as(rt.alloc(), TWO_REGISTERS, TWO_REGISTERS_PRINTED));
-    assert!(rt; is_printed_as(rt.alloc(), SUMMING, SUMMING));
-}
-
-fn loaded(alloc: Global, module: &str) -> Option<Runner> {
-    let Ok(netlist) = read(alloc, module.as_bytes()) else {
-        return None;
-    };
-    match Runner::load(alloc, netlist) {
-        Ok(runner) => Some(runner),
-        Err(_) => None,
+    let alloc = rt.alloc();
+    for (module, text) in MODULES {
+        assert!(rt; is_laid_out_as(alloc, module, text), "{text}");
     }
-}
-
-fn has_no_value_of(runner: &Runner, names: &[&str]) -> bool {
-    for name in names {
-        if runner.value(name).is_some() {
-            return false;
-        }
-    }
-    true
-}
-
-fn answers_of_cells(runner: &Runner) -> bool {
-    matches!(runner.cell("e", 3), Some(0))
-        && runner.cell("e", 4).is_none()
-        && runner.cell("d", 0).is_none()
-        && runner.find("e").is_none()
 }
 
 fn answers_before_the_first_step(alloc: Global) -> bool {
-    match loaded(alloc, SUMMING) {
-        Some(runner) => {
-            matches!(runner.value("d"), Some(0))
-                && has_no_value_of(&runner, &["a", "b", "c", "e", "clk", "zz"])
-                && answers_of_cells(&runner)
-        }
-        None => false,
-    }
+    let Ok(netlist) = read(alloc, SUMMING.as_bytes()) else {
+        return false;
+    };
+    let Ok(runner) = Runner::load(alloc, netlist) else {
+        return false;
+    };
+    matches!(runner.value("d"), Some(0))
+        && runner.value("a").is_none()
+        && runner.value("b").is_none()
+        && runner.value("c").is_none()
+        && runner.value("e").is_none()
+        && runner.value("clk").is_none()
+        && runner.value("zz").is_none()
+        && matches!(runner.cell("e", 3), Some(0))
+        && runner.cell("e", 4).is_none()
+        && runner.cell("d", 0).is_none()
+        && runner.find("e").is_none()
 }
 
 #[test]

@@ -1,7 +1,7 @@
 //! Part p, which adds 1 to its input, feeds part q, which copies its input.
 
+use crate::given::name;
 use sap_joined::{Feed, NamedNet, join};
-use sap_net::netlist::Netlist;
 use sap_net::parts::{Name, Operand, Parts, PortKind, Right, Wire};
 use sap_vread::read;
 use std::alloc::{AllocError, Global};
@@ -85,93 +85,51 @@ fn is_tested(wire: &Wire) -> bool {
     }
 }
 
-fn named(alloc: Global, text: &str) -> Result<Name, AllocError> {
-    Ok(Name::new(String::from_str(alloc, text)?))
-}
-
-// p and q, the register of p and the input of q.
-#[derive(Drop)]
-struct Names {
-    p: Name,
-    q: Name,
-    x: Name,
-    b: Name,
-}
-
-fn all_names(alloc: Global) -> Result<Names, AllocError> {
-    Ok(Names {
-        p: named(alloc, "p")?,
-        q: named(alloc, "q")?,
-        x: named(alloc, "x")?,
-        b: named(alloc, "b")?,
-    })
-}
-
-fn joined<'n>(
-    alloc: Global,
-    names: &'n Names,
-    adds: &'n Netlist,
-    copies: &'n Netlist,
-    level: Option<u64>,
-) -> Result<Parts, AllocError> {
+// Part p, then part q, and the wire from p's register to q's input.
+fn joined(alloc: Global, level: Option<u64>) -> Option<Parts> {
+    let adds = read(alloc, ADDS.as_bytes()).ok()?;
+    let copies = read(alloc, COPIES.as_bytes()).ok()?;
+    let p = name(alloc, "p").ok()?;
+    let q = name(alloc, "q").ok()?;
+    let x = name(alloc, "x").ok()?;
+    let b = name(alloc, "b").ok()?;
     let parts = [
         NamedNet {
-            name: &names.p,
-            netlist: adds,
+            name: &p,
+            netlist: &adds,
         },
         NamedNet {
-            name: &names.q,
-            netlist: copies,
+            name: &q,
+            netlist: &copies,
         },
     ];
     let feeds = [Feed {
-        from_part: &names.p,
-        from: &names.x,
-        to_part: &names.q,
-        to: &names.b,
+        from_part: &p,
+        from: &x,
+        to_part: &q,
+        to: &b,
         width: 8,
         level,
     }];
-    join(alloc, 1, &parts, &feeds)
-}
-
-fn joined_texts(alloc: Global, level: Option<u64>) -> Option<Parts> {
-    let Ok(adds) = read(alloc, ADDS.as_bytes()) else {
-        return None;
-    };
-    let Ok(copies) = read(alloc, COPIES.as_bytes()) else {
-        return None;
-    };
-    let Ok(names) = all_names(alloc) else {
-        return None;
-    };
-    match joined(alloc, &names, &adds, &copies, level) {
-        Ok(parts) => Some(parts),
-        Err(_) => None,
-    }
-}
-
-fn is_listed_as(alloc: Global, parts: &Parts, text: &[u8]) -> bool {
-    match listed(alloc, parts) {
-        Ok(lines) => lines.as_slice() == text,
-        Err(_) => false,
-    }
+    join(alloc, 1, &parts, &feeds).ok()
 }
 
 #[test]
 fn the_wires_of_a_level_stand_in_front(rt: HostRuntime) {
-    let Some(parts) = joined_texts(rt.alloc(), Some(0)) else {
+    let Some(parts) = joined(rt.alloc(), Some(0)) else {
         assert!(rt; false);
         return;
     };
-    assert!(rt; is_listed_as(rt.alloc(), &parts, THROUGH_A_LEVEL));
+    assert!(rt;
+        matches!(listed(rt.alloc(), &parts), Ok(lines) if lines.as_slice() == THROUGH_A_LEVEL)
+    );
     assert!(rt; parts.wires.len() > 2);
     assert!(rt; is_tested(&parts.wires[2]));
 }
 
 #[test]
 fn without_a_level_there_are_two(rt: HostRuntime) {
-    let Some(parts) = joined_texts(rt.alloc(), None) else {
+    let Some(parts) = joined(rt.alloc(), None) else {
         assert!(rt; false);
         return;
     };

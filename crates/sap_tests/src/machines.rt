@@ -5,7 +5,7 @@ ghost use Rattle.sap_check.specs.Checked.{tree_in};
 ghost use Rattle.sap_hang.specs.Hang.{IsHangTable};
 ghost use Rattle.sap_sem.specs.Machine.{program_of};
 
-use crate::lattice::TWO;
+use crate::given::TWO;
 use sap_check::Checked;
 use sap_compile::compile;
 use sap_hang::HangTable;

@@ -4,7 +4,6 @@ ghost use Rattle.std.specs.Prelude.{◌≡◌, [], true};
 ghost use Rattle.sap_net.specs.Runs.{InputsFit};
 
 use sap_cycle::runner::Runner;
-use sap_net::netlist::Netlist;
 use sap_net::parts::Input;
 use sap_vread::read;
 use sap_wave::Dumper;
@@ -50,7 +49,10 @@ fn is_closed(inputs: &[Input]) -> bool
 }
 
 // The numbers change places at each edge. A block without an edge before it has no change.
-fn writes_as_told(alloc: Global, netlist: Netlist) -> Result<bool, AllocError> {
+fn writes_as_told(alloc: Global) -> Result<bool, AllocError> {
+    let Ok(netlist) = read(alloc, EXCHANGING) else {
+        return Ok(false);
+    };
     let mut dumper = Dumper::load(alloc, &netlist)?;
     if dumper.head(alloc)?.as_slice() != HEAD || !is_closed(netlist.inputs()) {
         return Ok(false);
@@ -68,14 +70,7 @@ fn writes_as_told(alloc: Global, netlist: Netlist) -> Result<bool, AllocError> {
     Ok(is_first && is_second && dumper.block() == b"#3\n".as_slice())
 }
 
-fn exchanges(alloc: Global) -> bool {
-    match read(alloc, EXCHANGING) {
-        Ok(netlist) => matches!(writes_as_told(alloc, netlist), Ok(true)),
-        Err(_) => false,
-    }
-}
-
 #[test]
 fn a_block_has_the_variables_that_changed(rt: HostRuntime) {
-    assert!(rt; exchanges(rt.alloc()));
+    assert!(rt; matches!(writes_as_told(rt.alloc()), Ok(true)));
 }

@@ -54,34 +54,6 @@ const OTHER_SHAPES: [&str; 22] = [
     "parts = []\nwires = [['p.x', 'q.b'], true]",
 ];
 
-#[test]
-fn documents_and_shapes(rt: HostRuntime) {
-    let alloc = rt.alloc();
-    for text in DOCUMENTS {
-        assert!(rt; is_read(alloc, text), "{text}");
-    }
-    for text in NO_DOCUMENTS {
-        assert!(rt;
-            is_refused(alloc, text.as_bytes(), SysCode::K1, 0),
-            "{text}"
-        );
-    }
-    assert!(rt;
-        is_refused(
-            alloc,
-            b"parts = [['p', '\xff']]\nwires = []",
-            SysCode::K1,
-            0
-        )
-    );
-    for text in OTHER_SHAPES {
-        assert!(rt;
-            is_refused(alloc, text.as_bytes(), SysCode::K2, 0),
-            "{text}"
-        );
-    }
-}
-
 const EIGHT: &str =
     "parts = [['a', ''], ['b', ''], ['c', ''], ['d', ''], ['e', ''], ['f', ''], ['g', ''], ['h', '']]\nwires = []";
 
@@ -90,15 +62,6 @@ const NINE: &str =
 
 const NINE_EMPTY: &str =
     "parts = [['', ''], ['', ''], ['', ''], ['', ''], ['', ''], ['', ''], ['', ''], ['', ''], ['', '']]\nwires = []";
-
-#[test]
-fn counts_of_parts(rt: HostRuntime) {
-    let alloc = rt.alloc();
-    assert!(rt; is_refused(alloc, b"parts = []\nwires = []", SysCode::K3, 0));
-    assert!(rt; is_read(alloc, EIGHT));
-    assert!(rt; is_refused(alloc, NINE.as_bytes(), SysCode::K3, 9));
-    assert!(rt; is_refused(alloc, NINE_EMPTY.as_bytes(), SysCode::K3, 9));
-}
 
 const NAMES: [&str; 7] = [
     "parts = [['Pp9', 'a'], ['z', 'a']]\nwires = []",
@@ -146,8 +109,35 @@ const BAD_NAMES: [(&str, usize); 20] = [
 ];
 
 #[test]
-fn names_of_parts(rt: HostRuntime) {
+fn a_file_is_read_or_the_first_broken_rule_is_told(rt: HostRuntime) {
     let alloc = rt.alloc();
+    for text in DOCUMENTS {
+        assert!(rt; is_read(alloc, text), "{text}");
+    }
+    for text in NO_DOCUMENTS {
+        assert!(rt;
+            is_refused(alloc, text.as_bytes(), SysCode::K1, 0),
+            "{text}"
+        );
+    }
+    assert!(rt;
+        is_refused(
+            alloc,
+            b"parts = [['p', '\xff']]\nwires = []",
+            SysCode::K1,
+            0
+        )
+    );
+    for text in OTHER_SHAPES {
+        assert!(rt;
+            is_refused(alloc, text.as_bytes(), SysCode::K2, 0),
+            "{text}"
+        );
+    }
+    assert!(rt; is_refused(alloc, b"parts = []\nwires = []", SysCode::K3, 0));
+    assert!(rt; is_read(alloc, EIGHT));
+    assert!(rt; is_refused(alloc, NINE.as_bytes(), SysCode::K3, 9));
+    assert!(rt; is_refused(alloc, NINE_EMPTY.as_bytes(), SysCode::K3, 9));
     for text in NAMES {
         assert!(rt; is_read(alloc, text), "{text}");
     }
@@ -162,18 +152,14 @@ fn names_of_parts(rt: HostRuntime) {
 const TWO: &str =
     "parts = [['p', 'a b.sap'], ['q', '-']]\nwires = [['p.x', 'q.b'], ['q.y', 'p.a', 'low']]";
 
-fn has_two_parts(system: &SystemFile) -> bool {
-    let parts = system.parts();
+fn comes_as_written(system: &SystemFile) -> bool {
+    let (parts, wires) = (system.parts(), system.wires());
     parts.len() == 2
         && parts[0].name.as_str() == "p"
         && parts[0].file.as_str() == "a b.sap"
         && parts[1].name.as_str() == "q"
         && parts[1].file.as_str() == "-"
-}
-
-fn has_two_wires(system: &SystemFile) -> bool {
-    let wires = system.wires();
-    wires.len() == 2
+        && wires.len() == 2
         && wires[0].from.as_str() == "p.x"
         && wires[0].to.as_str() == "q.b"
         && wires[0].level.is_none()
@@ -185,7 +171,7 @@ fn has_two_wires(system: &SystemFile) -> bool {
 #[test]
 fn parts_and_wires_come_as_written(rt: HostRuntime) {
     match read_system(rt.alloc(), TWO.as_bytes()) {
-        Ok(system) => assert!(rt; has_two_parts(&system) && has_two_wires(&system)),
+        Ok(system) => assert!(rt; comes_as_written(&system)),
         Err(_) => assert!(rt; false),
     }
 }

@@ -3,9 +3,9 @@ use Rattle.sap_check.specs.Checked.{levels_in, tree_in}
 use Rattle.sap_cycle.specs.Running.{ShowsNext}
 use Rattle.sap_lattice.specs.Levels.{Levels}
 use Rattle.sap_trace.specs.Given.{given}
-use Rattle.sap_calls_tests.proofs.Steps.{shown, stepped}
-use Rattle.sap_calls_tests.proofs.refusals.refuses.Goals as goal
-use Rattle.sap_calls_tests.proofs.refusals.refuses.Goals.{After-step}
+use Rattle.sap_tests.proofs.Steps.{shown, stepped}
+use Rattle.sap_tests.proofs.refusals.refuses.Goals as goal
+use Rattle.sap_tests.proofs.refusals.refuses.Goals.{After-step}
 
 next : (c : After-step) → ShowsNext c.args.runner.now (given (levels_in c.args.checked.now) c.args.line.now) c.step.new.self
 next c =

@@ -3,9 +3,9 @@ use Rattle.sap_check.specs.Checked.{levels_in, tree_in}
 use Rattle.sap_meaning.specs.Prelude.{World, InputsFit}
 use Rattle.sap_resolved.specs.Worlds.{world_of}
 use Rattle.sap_stream.specs.Spans.{Span}
-use Rattle.sap_calls_tests.proofs.Steps.{lines_fit, read_fits}
-use Rattle.sap_calls_tests.proofs.refusals.tells_refusals.Goals as goal
-use Rattle.sap_calls_tests.proofs.refusals.tells_refusals.Goals.{After-inputs}
+use Rattle.sap_tests.proofs.Steps.{lines_fit, read_fits}
+use Rattle.sap_tests.proofs.refusals.tells_refusals.Goals as goal
+use Rattle.sap_tests.proofs.refusals.tells_refusals.Goals.{After-inputs}
 
 abbrev world : After-inputs → World
 world c = world_of (levels_in c.args.checked.now) (tree_in c.args.checked.now)

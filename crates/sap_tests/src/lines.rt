@@ -2,14 +2,12 @@
 
 ghost use Rattle.std.specs.Prelude.{◌≢◌};
 
+use crate::given::two;
 use sap_desk::{Desk, MemoryDesk};
-use sap_latfile::read_lattice;
 use sap_lattice::lattice::Lattice;
 use sap_lines::{Lines, Next};
 use sap_stim::{Field, Fields, StimCode, StimFault};
 use std::alloc::{AllocError, Global};
-
-const TWO: &str = "levels = [\"low\", \"high\"]\nbelow = [[\"low\", \"high\"]]\n";
 
 const LINE: &[u8] = b"5@high\n";
 
@@ -59,7 +57,7 @@ fn lines_before(
 
 /// Reads the stimulus from a desk whose call of this number fails, the first being the one that opens it.
 fn read(alloc: Global, failing: u64, last: Next) -> Result<Option<usize>, AllocError> {
-    let Ok(lattice) = read_lattice(alloc, TWO.as_bytes()) else {
+    let Some(lattice) = two(alloc) else {
         return Ok(None);
     };
     let mut desk = MemoryDesk::new(alloc, 0)?;
@@ -73,14 +71,10 @@ fn read(alloc: Global, failing: u64, last: Next) -> Result<Option<usize>, AllocE
     Ok(lines_before(&mut desk, channel, &mut reader, &lattice, last))
 }
 
-fn gives(alloc: Global, failing: u64, last: Next, lines: usize) -> bool {
-    matches!(read(alloc, failing, last), Ok(Some(count)) if count == lines)
-}
-
 /// Whether the second line, which is refused, is told without a second read: the first call opens the file, the second
 /// reads all of it, and the third would fail.
 fn tells_before_a_second_read(alloc: Global) -> Result<bool, AllocError> {
-    let Ok(lattice) = read_lattice(alloc, TWO.as_bytes()) else {
+    let Some(lattice) = two(alloc) else {
         return Ok(false);
     };
     let mut desk = MemoryDesk::new(alloc, 0)?;
@@ -101,15 +95,25 @@ fn tells_before_a_second_read(alloc: Global) -> Result<bool, AllocError> {
     Ok(reader.next(&mut desk, channel, &lattice) == refused)
 }
 
-// 585 lines are 4,095 bytes, and 1,170 lines are 8,190.
+/// The call that fails, the last answer, and how many lines come before it: 585 lines are 4,095 bytes, and 1,170 lines
+/// are 8,190.
+const READS: [(u64, Next, usize); 5] = [
+    (2, Next::Failed, 0),
+    (3, Next::Failed, 585),
+    (4, Next::Failed, 1170),
+    (5, Next::Failed, 1200),
+    (6, Next::End, 1200),
+];
+
 #[test]
 fn gives_the_lines_before_a_failed_read(rt: HostRuntime) {
     let alloc = rt.alloc();
-    assert!(rt; gives(alloc, 2, Next::Failed, 0));
-    assert!(rt; gives(alloc, 3, Next::Failed, 585));
-    assert!(rt; gives(alloc, 4, Next::Failed, 1170));
-    assert!(rt; gives(alloc, 5, Next::Failed, 1200));
-    assert!(rt; gives(alloc, 6, Next::End, 1200));
+    for (failing, last, lines) in READS {
+        assert!(rt;
+            matches!(read(alloc, failing, last), Ok(Some(count)) if count == lines),
+            "{failing}"
+        );
+    }
 }
 
 #[test]
