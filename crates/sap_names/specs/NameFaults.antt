@@ -39,26 +39,14 @@ too_large (Some w) value = leb (2 ^ w) value
 
 -- What is declared is of the kind that this use needs.
 abbrev pub fits_use : Use → Declared → Bool
-fits_use u.Assigned (d.Input width) = false
 fits_use u.Assigned (d.Register width) = true
-fits_use u.Assigned (d.Memory width depth) = false
-fits_use u.Assigned d.State = false
-fits_use u.Indexed (d.Input width) = false
-fits_use u.Indexed (d.Register width) = false
 fits_use u.Indexed (d.Memory width depth) = true
-fits_use u.Indexed d.State = false
 fits_use u.Read (d.Input width) = true
 fits_use u.Read (d.Register width) = true
-fits_use u.Read (d.Memory width depth) = false
-fits_use u.Read d.State = false
-fits_use u.Entered (d.Input width) = false
-fits_use u.Entered (d.Register width) = false
-fits_use u.Entered (d.Memory width depth) = false
 fits_use u.Entered d.State = true
-fits_use u.Retagged (d.Input width) = false
 fits_use u.Retagged (d.Register width) = true
-fits_use u.Retagged (d.Memory width depth) = false
 fits_use u.Retagged d.State = true
+fits_use _ _ = false
 
 -- A use of a name is E4 if nothing has the name, and E5 if what has it isn't of the kind that is used so.
 abbrev pub use_faults : Use → Option Declared → Place → List Fault
@@ -132,8 +120,7 @@ is_level levels name = is_some (level_named levels name)
 -- Both are levels, and the first is not at or below the second.
 abbrev pub not_below : (ℕ → ℕ → Bool) → Option ℕ → Option ℕ → Bool
 not_below le (Some a) (Some b) = not (le a b)
-not_below le (Some a) None = false
-not_below le None b = false
+not_below le _ _ = false
 
 -- A name in the place of a level is E6 if no level has it.
 abbrev pub level_faults : List (List ℕ) → Mention → List Fault

@@ -1,12 +1,12 @@
 -- Own widths and asked-for widths of expressions. `Some w` is a width, `None` says that there is none.
 use Rattle.std.specs.Prelude.{ℕ, zero, suc, Option, Some, None, Bool, true, false, eqb, leb, ltb, ◌&&◌, ◌^◌, ◌+◌, ◌-◌, if◌then◌else◌, is_some}
 use Rattle.sap_tree.specs.declared.syntax.UnaryOperator.{UnaryOperator}
-use Rattle.sap_tree.specs.declared.syntax.UnaryOperator.TheVariants.{Not, Neg, AllOnes, AnyOne, Odd}
+use Rattle.sap_tree.specs.declared.syntax.UnaryOperator.TheVariants.{Not, Neg}
 use Rattle.sap_tree.specs.declared.syntax.BinaryOperator.{BinaryOperator}
-use Rattle.sap_tree.specs.declared.syntax.BinaryOperator.TheVariants.{Or, Xor, And, Eq, Ne, Lt, Le, Shl, Shr, Add, Sub, Mul}
+use Rattle.sap_tree.specs.declared.syntax.BinaryOperator.TheVariants.{Eq, Ne, Lt, Le, Shl, Shr}
 use Rattle.sap_tree.specs.Syntax.{Expression, literal, sized_literal, variable, cell_at, unary_of, binary_of, choice, slice, concat, zero_extend, Expressions, no_part, and_part}
 use Rattle.sap_names.specs.declared.kind.Declared.{Declared}
-use Rattle.sap_names.specs.declared.kind.Declared.TheVariants.{Input, Register, Memory, State}
+use Rattle.sap_names.specs.declared.kind.Declared.TheVariants.{Input, Register, Memory}
 use Rattle.sap_names.specs.declared.kind.Family.{Family}
 use Rattle.sap_names.specs.declared.kind.Family.TheVariants.{Arithmetic, Shift, Comparison}
 use Rattle.sap_names.specs.Entities.{Lookup}
@@ -26,35 +26,24 @@ index_bits depth = bits_up_to 12 depth
 
 -- `plain_width` is the width of what is read by a plain name: an input or a register.
 abbrev pub plain_width : Option Declared → Option ℕ
-plain_width None = None
 plain_width (Some (Input width)) = sound_width width
 plain_width (Some (Register width)) = sound_width width
-plain_width (Some (Memory width depth)) = None
-plain_width (Some State) = None
+plain_width _ = None
 
 -- `register_width` is the width of a register that is assigned.
 abbrev pub register_width : Option Declared → Option ℕ
-register_width None = None
-register_width (Some (Input width)) = None
 register_width (Some (Register width)) = sound_width width
-register_width (Some (Memory width depth)) = None
-register_width (Some State) = None
+register_width _ = None
 
 -- The width of a memory's cells, and none of anything else.
 abbrev pub cell_width : Option Declared → Option ℕ
-cell_width None = None
-cell_width (Some (Input width)) = None
-cell_width (Some (Register width)) = None
 cell_width (Some (Memory width depth)) = sound_width width
-cell_width (Some State) = None
+cell_width _ = None
 
 -- The width of a memory's index, and none of anything else.
 abbrev pub index_width : Option Declared → Option ℕ
-index_width None = None
-index_width (Some (Input width)) = None
-index_width (Some (Register width)) = None
 index_width (Some (Memory width depth)) = index_bits depth
-index_width (Some State) = None
+index_width _ = None
 
 -- The first width if there is one, else the second.
 abbrev pub else_of : Option ℕ → Option ℕ → Option ℕ
@@ -73,24 +62,18 @@ sliced (Some w) high low = if leb low high && ltb high w then Some (high - low +
 
 -- The sum of two widths, if both are there and it is at most 64.
 abbrev pub joined : Option ℕ → Option ℕ → Option ℕ
-joined None other = None
-joined (Some w) None = None
 joined (Some w) (Some u) = if leb (w + u) 64 then Some (w + u) else None
+joined _ _ = None
 
 -- Which of three rules on widths a binary operator follows.
 abbrev pub family : BinaryOperator → Family
-family Or = Arithmetic
-family Xor = Arithmetic
-family And = Arithmetic
-family Add = Arithmetic
-family Sub = Arithmetic
-family Mul = Arithmetic
 family Eq = Comparison
 family Ne = Comparison
 family Lt = Comparison
 family Le = Comparison
 family Shl = Shift
 family Shr = Shift
+family _ = Arithmetic
 
 -- The own width of a binary operator's result, by the own widths of its operands.
 abbrev pub own_binary : Family → Option ℕ → Option ℕ → Option ℕ
@@ -102,9 +85,7 @@ own_binary Comparison left right = Some 1
 abbrev pub is_reduction : UnaryOperator → Bool
 is_reduction Not = false
 is_reduction Neg = false
-is_reduction AllOnes = true
-is_reduction AnyOne = true
-is_reduction Odd = true
+is_reduction _ = true
 
 -- The own width of an expression, which its parts give, if they give one.
 abbrev mutual
