@@ -2,7 +2,7 @@
 use Rattle.std.specs.Prelude.{◌≡◌, ◌⊎◌, ℕ, ◌+◌, ◌^◌, ◌<◌, ◌≤◌, min, List, [], ◌∷◌, ◌++◌, take, length, codes, Option, Some, None, IfSome, IsSome, IsSomeAnd, option_map, Result, OnOk, OnErr}
 use Rattle.std.specs.List.{flat_map}
 use Rattle.std.specs.Borrow.{Bor}
-use Rattle.sap_desk.specs.Desk.{Told, Use, closed, reads, writes, stream, IsOpen, at_name, at_number, bytes_of, blamed, added, name_if_reading, read_on, rest_of}
+use Rattle.sap_desk.specs.Desk.{Told, Use, closed, reads, writes, IsOpen, at_name, at_number, bytes_of, blamed, added, name_if_reading, read_on, rest_of}
 use Rattle.sap_desk.specs.Cause.{counted}
 
 -- If the desk reports its contents before the call, it reports them after it, and `R` holds of both.

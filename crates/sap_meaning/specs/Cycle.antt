@@ -1,7 +1,7 @@
 -- One cycle, and a run over a stream.
 use Rattle.std.specs.Prelude.{ℕ, zero, suc, Bool, List, [], ◌∷◌, get_or, if◌then◌else◌}
 use Rattle.sap_meaning.specs.Program.{World, Entity, kind_is_input, is_input, root, listed, State, state_node, Group, no_node, and_node, Program}
-use Rattle.sap_meaning.specs.Store.{Store, Slot, own, start, next, start_whole, next_whole, level, child, raise, settle, After, stay}
+use Rattle.sap_meaning.specs.Store.{Store, Slot, own, level, child, raise, settle, After, stay}
 use Rattle.sap_meaning.specs.Touches.{root_touches}
 use Rattle.sap_meaning.specs.Does.{does_state}
 use Rattle.sap_meaning.specs.Runs.{run_state}
@@ -25,10 +25,7 @@ given w inputs x = get_or inputs (inputs_before w.entities x) (record { number =
 -- The content of a slot: the new one for an input's own slot, and the old one for every other.
 abbrev pub at_inputs : World → (ℕ → ℕ) → (Slot → ℕ) → Slot → ℕ
 at_inputs w new old (own x) = if is_input w x then new x else old (own x)
-at_inputs w new old (start m i) = old (start m i)
-at_inputs w new old (next m i) = old (next m i)
-at_inputs w new old (start_whole m) = old (start_whole m)
-at_inputs w new old (next_whole m) = old (next_whole m)
+at_inputs w new old z = old z
 
 -- A cycle begins by giving each input its number and its level.
 unfoldable pub set_inputs : World → List Tagged → Store → Store

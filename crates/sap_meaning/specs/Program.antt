@@ -60,30 +60,22 @@ children w p = get_or w.children p 0
 -- The kind is that of an input.
 abbrev pub kind_is_input : Kind → Bool
 kind_is_input input = true
-kind_is_input register = false
-kind_is_input (memory depth) = false
-kind_is_input (state place last) = false
+kind_is_input _ = false
 
 -- The kind is that of a register.
 abbrev pub kind_is_register : Kind → Bool
-kind_is_register input = false
 kind_is_register register = true
-kind_is_register (memory depth) = false
-kind_is_register (state place last) = false
+kind_is_register _ = false
 
 -- The kind is that of a memory.
 abbrev pub kind_is_memory : Kind → Bool
-kind_is_memory input = false
-kind_is_memory register = false
 kind_is_memory (memory depth) = true
-kind_is_memory (state place last) = false
+kind_is_memory _ = false
 
 -- The kind is that of a state.
 abbrev pub kind_is_state : Kind → Bool
-kind_is_state input = false
-kind_is_state register = false
-kind_is_state (memory depth) = false
 kind_is_state (state place last) = true
+kind_is_state _ = false
 
 -- The entity of a number is an input.
 abbrev pub is_input : World → ℕ → Bool
@@ -103,24 +95,18 @@ is_state w x = kind_is_state (entity w x).kind
 
 -- The place of a state in its group, from 0; 0 for another kind.
 abbrev pub place_of : Kind → ℕ
-place_of input = 0
-place_of register = 0
-place_of (memory depth) = 0
 place_of (state place last) = place
+place_of _ = 0
 
 -- The number of the last state inside a state, its own if it is a leaf; 0 for another kind.
 abbrev pub last_of : Kind → ℕ
-last_of input = 0
-last_of register = 0
-last_of (memory depth) = 0
 last_of (state place last) = last
+last_of _ = 0
 
 -- The number of cells of a memory; 0 for another kind.
 abbrev pub depth_of : Kind → ℕ
-depth_of input = 0
-depth_of register = 0
 depth_of (memory depth) = depth
-depth_of (state place last) = 0
+depth_of _ = 0
 
 -- `place` is a state's place in its group.
 abbrev pub place : World → ℕ → ℕ

@@ -2,17 +2,14 @@
 use Rattle.std.specs.Prelude.{◌≡◌, ℕ, true, false, ◌<◌, ◌^◌, List, [], ◌∷◌, if◌then◌else◌}
 use Rattle.std.specs.List.{AllByRecursion}
 use Rattle.sap_meaning.specs.Program.{World, Program, Entity, entity, is_dynamic, authority, width, children, kind_is_input}
-use Rattle.sap_meaning.specs.Store.{Store, Slot, own, start, next, start_whole, next_whole, owner, held, number, level}
+use Rattle.sap_meaning.specs.Store.{Store, Slot, own, start, next, owner, held, number, level}
 use Rattle.sap_meaning.specs.Cycle.{Tagged, run_from}
 use Rattle.sap_meaning.specs.Store.{After}
 
 -- Registers start with their number, cells with 0.
 abbrev pub first_number : World → Slot → ℕ
 first_number w (own x) = (entity w x).initial
-first_number w (start m i) = 0
-first_number w (next m i) = 0
-first_number w (start_whole m) = 0
-first_number w (next_whole m) = 0
+first_number w _ = 0
 
 -- Dynamic entities start at the bottom, enforced ones with their declared level.
 abbrev pub first_level : World → Slot → ℕ

@@ -41,8 +41,7 @@ abbrev pub held : World → Slot → Bool
 held w (own x) = not (is_memory w x)
 held w (start m i) = is_memory w m
 held w (next m i) = is_memory w m
-held w (start_whole m) = false
-held w (next_whole m) = false
+held w _ = false
 
 -- The number in a slot.
 abbrev pub number : Slot → Store → ℕ
@@ -81,10 +80,8 @@ put_child p n s = record s { child = λ q. if nat_eq q p then n else s.child q }
 -- such memory as a whole. `hangs` holds of dynamic entities alone, so no single cell is raised.
 abbrev pub raised : (ℕ → Bool) → Slot → Bool
 raised hangs (own x) = hangs x
-raised hangs (start m i) = false
-raised hangs (next m i) = false
-raised hangs (start_whole m) = false
 raised hangs (next_whole m) = hangs m
+raised hangs _ = false
 
 -- The level of each entity of which `hangs` holds becomes its join with `t`.
 unfoldable pub raise : Order → (ℕ → Bool) → ℕ → Store → Store
@@ -93,10 +90,7 @@ raise o hangs t s = record s { level = λ z. if raised hangs z then o.join (s.le
 -- `lowered` are the slots of the dynamic states below a state.
 abbrev pub lowered : World → ℕ → Slot → Bool
 lowered w target (own x) = below w target x && is_dynamic w x
-lowered w target (start m i) = false
-lowered w target (next m i) = false
-lowered w target (start_whole m) = false
-lowered w target (next_whole m) = false
+lowered w target _ = false
 
 -- Every group under a state returns to its first child, and the dynamic states below it get the bottom.
 unfoldable pub reset : World → ℕ → Store → Store

@@ -8,10 +8,7 @@ use Rattle.sap_meaning.specs.Checks.{Home}
 abbrev pub step_assigns : Step → ℕ → Bool
 step_assigns (assign site y e) x = nat_eq x y
 step_assigns (write site m i e) x = nat_eq x m
-step_assigns (retag site y n) x = false
-step_assigns (retag_cell site m j n) x = false
-step_assigns (go_to site target) x = false
-step_assigns (fall_to_child site hang) x = false
+step_assigns _ x = false
 
 -- A command, or one inside it, assigns x.
 abbrev pub assigns : Command → ℕ → Bool
@@ -35,12 +32,8 @@ group_assigns g x = some_body_in (λ b. block_assigns b x) g
 
 -- A step gives the register or state x a level.
 abbrev pub step_retags : Step → ℕ → Bool
-step_retags (assign site y e) x = false
-step_retags (write site m i e) x = false
 step_retags (retag site y n) x = nat_eq x y
-step_retags (retag_cell site m j n) x = false
-step_retags (go_to site target) x = false
-step_retags (fall_to_child site hang) x = false
+step_retags _ x = false
 
 -- Some step of a command retags this entity.
 abbrev pub retags : Command → ℕ → Bool
@@ -67,12 +60,9 @@ among (and_node (state_node s b k) g) x = nat_eq x s || among g x
 -- write concerns its target, and a `goto` the state `s`. A `fall` concerns the children and what is assigned in their
 -- bodies and in those below them.
 abbrev pub step_hangs : ℕ → Group → Step → ℕ → Bool
-step_hangs s g (assign site y e) x = nat_eq x y
-step_hangs s g (write site m i e) x = nat_eq x m
-step_hangs s g (retag site y n) x = false
-step_hangs s g (retag_cell site m j n) x = false
 step_hangs s g (go_to site target) x = nat_eq x s
 step_hangs s g (fall_to_child site hang) x = among g x || group_assigns g x
+step_hangs s g k x = step_assigns k x
 
 -- Some step of a command concerns the entity `x`, dynamic or not.
 abbrev pub hangs : ℕ → Group → Command → ℕ → Bool
