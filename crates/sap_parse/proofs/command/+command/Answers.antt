@@ -1,22 +1,19 @@
 use Rattle.sap_lemmas.proofs.Common.{◌∙◌, ◌++◌, ◌∷◌, [], ◌+◌, List, sym, ap, subst, refl, rules, arith, IfOk-weaker}
-use Rattle.sap_parse.specs.CommandRows.{arms_row, behind, behind_row, constants_row, ended, plain}
+use Rattle.sap_parse.specs.CommandRows.{behind, ended, plain}
 use Rattle.sap_parse.specs.Grammar as g
 use Rattle.sap_parse.specs.Joining.{join_commands}
 use Rattle.sap_parse.specs.Reading.{steps_by, strictly}
-use Rattle.sap_parse.specs.Rows.{asked_row}
 use Rattle.sap_parse.specs.Table as s
 use Rattle.sap_parse.specs.declared.role.Role.TheVariants as r
-use Rattle.sap_lex.specs.declared.token.Sign.TheVariants as j
 use Rattle.sap_tree.specs.Syntax as t
 use Rattle.sap_tree.specs.Trees.{arm_block_of, arms_before, block_of, command_of, commands_of, constants_of, expression_of, simple_of}
 use Rattle.sap_tree.specs.declared.syntax.Arm.{Arm}
 use Rattle.sap_tree.specs.declared.syntax.Expr.{Expr}
 use Rattle.sap_tree.specs.declared.syntax.Simple.{Simple}
-use Rattle.sap_tree.specs.declared.word.Word.TheVariants as w
-use Rattle.sap_parse.proofs.CommandLaws.{arms_last, arms_there, block_steps, cmd_simple, cmds_there}
+use Rattle.sap_parse.proofs.CommandLaws.{arms_there, block_steps, cmd_simple, cmds_there}
 use Rattle.sap_parse.proofs.CommandMakes.{arm_tree, arms_before_push, arms_tree, block_tree, branch_tree, case_tree, decided_tree, else_tree, ended_tree, handled_tree, join_commands_none, join_commands_push}
 use Rattle.sap_parse.proofs.CommandRowLaws.{arm_rows, case_rows, else_row, if_rows}
-use Rattle.sap_parse.proofs.Faults.{fault_goes, fault_goes_in_row, fault_goes_on}
+use Rattle.sap_parse.proofs.Faults.{fault_goes}
 use Rattle.sap_parse.proofs.RowLaws.{row_steps}
 use Rattle.sap_walk.proofs.Walking.{bind_ok, bind_pure}
 use Rattle.sap_parse.proofs.command.+command.Goals as goal
@@ -97,160 +94,35 @@ pub more_arms-returns-clause-tree : goal.more_arms-returns-clause-tree
 more_arms-returns-clause-tree m c =
     IfOk-weaker c.block.result _ _ (λ last h. c.arms.invariant.tree (t.last_arm (block_of last)) c.block.new.tokens (g.last c.in_ok-word.ensures.tree h)) c.block.ensures.tree
 
-pub command-returns-in_err-first-clause-goes : goal.command-returns-in_err-first-clause-goes
-command-returns-in_err-first-clause-goes m c =
-    fault_goes (s.cmd c.args.depth) (s.simple c.args.depth) c.args.tokens.now c.args.tokens.now c.boxed.new.tokens _ c.in_err-first.field-0.0 c.from_residual.result (search rules)
-    (cmd_simple strictly c.args.depth c.args.tokens.now (c.if-at_word.ensures.no refl) (c.if-at_word-2.ensures.no refl)) c.in_err-first.ensures.goes
-
-pub command-returns-in_err-ending-clause-goes : goal.command-returns-in_err-ending-clause-goes
-command-returns-in_err-ending-clause-goes m c =
-    fault_goes (s.cmd c.args.depth) (s.ending c.args.depth) c.args.tokens.now c.boxed.new.tokens c.ending.new.tokens
-    _ c.in_err-ending.field-0.0 c.from_residual-in_err-ending.result (search rules)
-    (cmd_simple strictly c.args.depth c.args.tokens.now (c.if-at_word.ensures.no refl) (c.if-at_word-2.ensures.no refl)
-    ∙ bind_ok _ _ _ c.in_ok-first.ensures.goes) c.in_err-ending.ensures.goes
-
 pub command-returns-clause-goes : goal.command-returns-clause-goes
 command-returns-clause-goes m c =
     cmd_simple strictly c.args.depth c.args.tokens.now (c.if-at_word.ensures.no refl) (c.if-at_word-2.ensures.no refl)
     ∙ bind_ok _ _ _ c.in_ok-first.ensures.goes ∙ bind_pure _ ∙ c.in_ok-ending.ensures.goes
 
-pub behind-returns-in_err-place-clause-goes : goal.behind-returns-in_err-place-clause-goes
-behind-returns-in_err-place-clause-goes m c =
-    fault_goes_on (behind_row c.args.word c.args.depth) (s.word r.Plain c.args.word) c.args.tokens.now c.args.tokens.now c.word.new.self
-    _ c.in_err-place.field-0.0 c.from_residual.result (search rules)
-    (row_steps _ _) c.in_err-place.ensures.goes
-
-pub behind-returns-in_err-block-clause-goes : goal.behind-returns-in_err-block-clause-goes
-behind-returns-in_err-block-clause-goes m c =
-    fault_goes_on (behind_row c.args.word c.args.depth) (s.block (c.args.depth + 1)) c.args.tokens.now c.word.new.self c.block.new.tokens
-    _ c.in_err-block.field-0.0 c.from_residual-in_err-block.result (search rules)
-    (row_steps _ _ ∙ bind_ok _ _ _ c.in_ok-place.ensures.goes) c.in_err-block.ensures.goes
-
 pub behind-returns-clause-goes : goal.behind-returns-clause-goes
 behind-returns-clause-goes m c =
     row_steps _ _ ∙ bind_ok _ _ _ c.in_ok-place.ensures.goes ∙ bind_pure _ ∙ c.in_ok-block.ensures.goes
-
-pub branch-returns-in_err-place-clause-goes : goal.branch-returns-in_err-place-clause-goes
-branch-returns-in_err-place-clause-goes m c =
-    fault_goes_in_row (s.if_command c.args.depth) (asked_row (r.Command c.args.depth) w.If r.Plain r.Plain) c.args.tokens.now
-    c.args.tokens.now c.asked.new.tokens _ c.in_err-place.field-0.0 c.from_residual.result (search rules)
-    (if_rows c.args.depth c.args.tokens.now) c.in_err-place.ensures.goes
-
-pub branch-returns-in_err-one-clause-goes : goal.branch-returns-in_err-one-clause-goes
-branch-returns-in_err-one-clause-goes m c =
-    fault_goes (s.if_command c.args.depth) (s.block (c.args.depth + 1)) c.args.tokens.now c.asked.new.tokens c.block.new.tokens
-    _ c.in_err-one.field-0.0 c.from_residual-in_err-one.result (search rules)
-    (if_rows c.args.depth c.args.tokens.now ∙ bind_ok _ _ _ c.in_ok-place.ensures.goes) c.in_err-one.ensures.goes
-
-pub branch-returns-in_err-other-clause-goes : goal.branch-returns-in_err-other-clause-goes
-branch-returns-in_err-other-clause-goes m c =
-    fault_goes (s.if_command c.args.depth) (s.else_part (c.args.depth + 1)) c.args.tokens.now c.block.new.tokens c.otherwise.new.tokens
-    _ c.in_err-other.field-0.0 c.from_residual-in_err-other.result (search rules)
-    (if_rows c.args.depth c.args.tokens.now ∙ bind_ok _ _ _ c.in_ok-place.ensures.goes ∙ bind_ok _ _ _ c.in_ok-one.ensures.goes) c.in_err-other.ensures.goes
 
 pub branch-returns-clause-goes : goal.branch-returns-clause-goes
 branch-returns-clause-goes m c =
     if_rows c.args.depth c.args.tokens.now ∙ bind_ok _ _ _ c.in_ok-place.ensures.goes ∙ bind_ok _ _ _ c.in_ok-one.ensures.goes ∙ bind_pure _ ∙ c.in_ok-other.ensures.goes
 
-pub case-returns-in_err-place-clause-goes : goal.case-returns-in_err-place-clause-goes
-case-returns-in_err-place-clause-goes m c =
-    fault_goes_in_row (s.case_command c.args.depth) (asked_row (r.Command c.args.depth) w.Case r.Plain r.Plain) c.args.tokens.now
-    c.args.tokens.now c.asked.new.tokens _ c.in_err-place.field-0.0 c.from_residual.result (search rules)
-    (case_rows c.args.depth c.args.tokens.now) c.in_err-place.ensures.goes
-
-pub case-returns-in_err-arms-clause-goes : goal.case-returns-in_err-arms-clause-goes
-case-returns-in_err-arms-clause-goes m c =
-    fault_goes_in_row (s.case_command c.args.depth) (arms_row (c.args.depth + 1)) c.args.tokens.now c.asked.new.tokens c.arms.new.tokens
-    _ c.in_err-arms.field-0.0 c.from_residual-in_err-arms.result (search rules)
-    (case_rows c.args.depth c.args.tokens.now ∙ bind_ok _ _ _ c.in_ok-place.ensures.goes ∙ sym (bind_pure _)) c.in_err-arms.ensures.goes
-
 pub case-returns-clause-goes : goal.case-returns-clause-goes
 case-returns-clause-goes m c =
     case_rows c.args.depth c.args.tokens.now ∙ bind_ok _ _ _ c.in_ok-place.ensures.goes ∙ c.in_ok-arms.ensures.goes
-
-pub arms-returns-in_err-sign-clause-goes : goal.arms-returns-in_err-sign-clause-goes
-arms-returns-in_err-sign-clause-goes m c =
-    fault_goes_on (arms_row c.args.depth) (s.sign r.Plain j.OpenBrace) c.args.tokens.now c.args.tokens.now c.sign.new.self
-    _ c.in_err-sign.field-0.0 c.from_residual.result (search rules)
-    (row_steps _ _) c.in_err-sign.ensures.goes
-
-pub arms-returns-in_err-first-clause-goes : goal.arms-returns-in_err-first-clause-goes
-arms-returns-in_err-first-clause-goes m c =
-    fault_goes_on (arms_row c.args.depth) (s.arm c.args.depth) c.args.tokens.now c.sign.new.self c.arm.new.tokens _ c.in_err-first.field-0.0
-    c.from_residual-in_err-first.result (search rules)
-    (row_steps _ _ ∙ bind_ok _ _ _ c.in_ok-sign.ensures.goes) c.in_err-first.ensures.goes
-
-pub arms-returns-in_err-last-clause-goes : goal.arms-returns-in_err-last-clause-goes
-arms-returns-in_err-last-clause-goes m c =
-    fault_goes_on (arms_row c.args.depth) (s.arms c.args.depth) c.args.tokens.now c.arm.new.tokens c.more_arms.new.tokens
-    _ c.in_err-last.field-0.0 c.from_residual-in_err-last.result (search rules)
-    (row_steps _ _ ∙ bind_ok _ _ _ c.in_ok-sign.ensures.goes ∙ bind_ok _ _ _ c.in_ok-first.ensures.goes) c.in_err-last.ensures.goes
-
-pub arms-returns-in_err-sign-2-clause-goes : goal.arms-returns-in_err-sign-2-clause-goes
-arms-returns-in_err-sign-2-clause-goes m c =
-    fault_goes_on (arms_row c.args.depth) (s.sign r.Plain j.CloseBrace) c.args.tokens.now c.more_arms.new.tokens c.sign-2.new.self
-    _ c.in_err-sign-2.field-0.0 c.from_residual-in_err-sign-2.result (search rules)
-    (row_steps _ _ ∙ bind_ok _ _ _ c.in_ok-sign.ensures.goes ∙ bind_ok _ _ _ c.in_ok-first.ensures.goes ∙ bind_ok _ _ _ c.in_ok-last.ensures.goes) c.in_err-sign-2.ensures.goes
 
 pub arms-returns-clause-goes : goal.arms-returns-clause-goes
 arms-returns-clause-goes m c =
     row_steps _ _ ∙ bind_ok _ _ _ c.in_ok-sign.ensures.goes ∙ bind_ok _ _ _ c.in_ok-first.ensures.goes
     ∙ bind_ok _ _ _ c.in_ok-last.ensures.goes ∙ bind_pure _ ∙ c.in_ok-sign-2.ensures.goes
 
-pub more_arms-returns-in_err-next-clause-goes : goal.more_arms-returns-in_err-next-clause-goes
-more_arms-returns-in_err-next-clause-goes m c =
-    fault_goes (s.arms c.args.depth) (s.arm c.args.depth) c.args.tokens.now c.arms.tokens c.arm.new.tokens _ c.in_err-next.field-0.0 c.from_residual.result (search rules)
-    (c.arms.invariant.goes ∙ arms_there strictly c.args.depth c.arms.tokens (sym c.arms-test.ensures)) c.in_err-next.ensures.goes
-
-pub more_arms-returns-in_err-word-clause-goes : goal.more_arms-returns-in_err-word-clause-goes
-more_arms-returns-in_err-word-clause-goes m c =
-    fault_goes (s.arms c.args.depth) (s.word r.Plain w.Else) c.args.tokens.now c.arms.tokens c.word.new.self _ c.in_err-word.field-0.0
-    c.from_residual-in_err-word.result (search rules)
-    (c.arms.invariant.goes ∙ arms_last strictly c.args.depth c.arms.tokens (sym c.arms-test.ensures)) c.in_err-word.ensures.goes
-
-pub arm-returns-in_err-constants-clause-goes : goal.arm-returns-in_err-constants-clause-goes
-arm-returns-in_err-constants-clause-goes m c =
-    fault_goes_in_row (s.arm c.args.depth) constants_row c.args.tokens.now c.args.tokens.now c.constants.new.tokens
-    _ c.in_err-constants.field-0.0 c.from_residual.result (search rules)
-    (arm_rows c.args.depth c.args.tokens.now) c.in_err-constants.ensures.goes
-
-pub arm-returns-in_err-block-clause-goes : goal.arm-returns-in_err-block-clause-goes
-arm-returns-in_err-block-clause-goes m c =
-    fault_goes (s.arm c.args.depth) (s.block c.args.depth) c.args.tokens.now c.constants.new.tokens c.block.new.tokens
-    _ c.in_err-block.field-0.0 c.from_residual-in_err-block.result (search rules)
-    (arm_rows c.args.depth c.args.tokens.now ∙ bind_ok _ _ _ c.in_ok-constants.ensures.goes) c.in_err-block.ensures.goes
-
 pub arm-returns-clause-goes : goal.arm-returns-clause-goes
 arm-returns-clause-goes m c =
     arm_rows c.args.depth c.args.tokens.now ∙ bind_ok _ _ _ c.in_ok-constants.ensures.goes ∙ bind_pure _ ∙ c.in_ok-block.ensures.goes
 
-pub otherwise-returns-in_err-other-clause-goes : goal.otherwise-returns-in_err-other-clause-goes
-otherwise-returns-in_err-other-clause-goes m c =
-    fault_goes_in_row (s.else_part (c.args.depth + 1)) (behind_row w.Else c.args.depth) c.args.tokens.now c.args.tokens.now
-    c.behind.new.tokens _ c.in_err-other.field-0.0 c.from_residual.result (search rules)
-    (else_row c.args.depth c.args.tokens.now (c.if-not-at_word.ensures.yes refl) ∙ sym (bind_pure _)) c.in_err-other.ensures.goes
-
 pub otherwise-returns-clause-goes : goal.otherwise-returns-clause-goes
 otherwise-returns-clause-goes m c =
     else_row c.args.depth c.args.tokens.now (c.if-not-at_word.ensures.yes refl) ∙ c.in_ok-other.ensures.goes
-
-pub block-returns-in_err-sign-clause-goes : goal.block-returns-in_err-sign-clause-goes
-block-returns-in_err-sign-clause-goes m c =
-    fault_goes (s.block c.args.depth) (s.sign r.Plain j.OpenBrace) c.args.tokens.now c.args.tokens.now c.sign.new.self
-    _ c.in_err-sign.field-0.0 c.from_residual.result (search rules)
-    (block_steps strictly c.args.depth c.args.tokens.now) c.in_err-sign.ensures.goes
-
-pub block-returns-in_err-commands-clause-goes : goal.block-returns-in_err-commands-clause-goes
-block-returns-in_err-commands-clause-goes m c =
-    fault_goes (s.block c.args.depth) (s.cmds c.args.depth) c.args.tokens.now c.sign.new.self c.commands.new.tokens
-    _ c.in_err-commands.field-0.0 c.from_residual-in_err-commands.result (search rules)
-    (block_steps strictly c.args.depth c.args.tokens.now ∙ bind_ok _ _ _ c.in_ok-sign.ensures.goes) c.in_err-commands.ensures.goes
-
-pub block-returns-in_err-after-clause-goes : goal.block-returns-in_err-after-clause-goes
-block-returns-in_err-after-clause-goes m c =
-    fault_goes (s.block c.args.depth) (s.sign r.Plain j.CloseBrace) c.args.tokens.now c.commands.new.tokens c.sign-2.new.self
-    _ c.in_err-after.field-0.0 c.from_residual-in_err-after.result (search rules)
-    (block_steps strictly c.args.depth c.args.tokens.now ∙ bind_ok _ _ _ c.in_ok-sign.ensures.goes ∙ bind_ok _ _ _ c.in_ok-commands.ensures.goes) c.in_err-after.ensures.goes
 
 pub block-returns-clause-goes : goal.block-returns-clause-goes
 block-returns-clause-goes m c =

@@ -1,14 +1,10 @@
-use Rattle.std.proofs.Common.{◌∙◌, sym, ap, refl, arith, rules}
+use Rattle.std.proofs.Common.{◌∙◌, sym, ap, refl, arith}
 use Rattle.sap_parse.specs.Grammar as g
 use Rattle.sap_parse.specs.Joining.{join}
 use Rattle.sap_parse.specs.Reading.{strictly}
-use Rattle.sap_parse.specs.Table as s
-use Rattle.sap_parse.specs.declared.role.Role.TheVariants as r
-use Rattle.sap_lex.specs.declared.token.Sign.TheVariants as j
 use Rattle.sap_tree.specs.Syntax as t
 use Rattle.sap_tree.specs.Trees.{expression_of, expressions_of}
 use Rattle.sap_parse.proofs.CommandLaws.{constants_missing, constants_there}
-use Rattle.sap_parse.proofs.Faults.{fault_goes}
 use Rattle.sap_parse.proofs.Makes.{join_none, join_push}
 use Rattle.sap_walk.proofs.Walking.{bind_ok, bind_pure}
 use Rattle.sap_parse.proofs.command.more_constants.Goals as goal
@@ -30,14 +26,3 @@ pub returns-clause-tree : goal.returns-clause-tree
 returns-clause-tree c =
     let h = c.constants.invariant.tree t.no_part c.constants.tokens g.no_constant in
     (h.0, sym (join_none _) ∙ h.1, h.2)
-
-pub returns-in_err-sign-clause-goes : goal.returns-in_err-sign-clause-goes
-returns-in_err-sign-clause-goes c =
-    fault_goes s.constants (s.sign r.Plain j.Comma) c.args.tokens.now c.constants.tokens c.sign.new.self _ c.in_err-sign.field-0.0 c.from_residual.result (search rules)
-    (c.constants.invariant.goes ∙ constants_there strictly c.constants.tokens (c.constants-test.ensures.yes refl)) c.in_err-sign.ensures.goes
-
-pub returns-in_err-next-clause-goes : goal.returns-in_err-next-clause-goes
-returns-in_err-next-clause-goes c =
-    fault_goes s.constants s.constant c.args.tokens.now c.sign.new.self c.constant.new.tokens _ c.in_err-next.field-0.0 c.from_residual-in_err-next.result (search rules)
-    (c.constants.invariant.goes ∙ constants_there strictly c.constants.tokens (c.constants-test.ensures.yes refl)
-    ∙ bind_ok _ _ _ c.in_ok-sign.ensures.goes) c.in_err-next.ensures.goes

@@ -1,29 +1,11 @@
-use Rattle.std.proofs.Common.{◌∙◌, rules}
-use Rattle.sap_parse.specs.DesignRows.{declared_row}
-use Rattle.sap_parse.specs.Table as s
-use Rattle.sap_parse.specs.declared.role.Role.TheVariants as r
-use Rattle.sap_lex.specs.declared.token.Sign.TheVariants as j
-use Rattle.sap_tree.specs.declared.word.Word.TheVariants as w
+use Rattle.std.proofs.Common.{◌∙◌}
 use Rattle.sap_parse.proofs.DesignMakes.{input_tree}
 use Rattle.sap_parse.proofs.DesignRowLaws.{input_rows}
-use Rattle.sap_parse.proofs.Faults.{fault_goes, fault_goes_in_row}
 use Rattle.sap_walk.proofs.Walking.{bind_ok, bind_pure}
 use Rattle.sap_parse.proofs.declaration.input.Goals as goal
 
 pub returns-clause-tree : goal.returns-clause-tree
 returns-clause-tree c = input_tree c.in_ok-place.ensures.tree c.in_ok-sign.ensures.tree
-
-pub returns-in_err-place-clause-goes : goal.returns-in_err-place-clause-goes
-returns-in_err-place-clause-goes c =
-    fault_goes_in_row s.input (declared_row r.Input w.Input) c.args.tokens.now c.args.tokens.now c.declared.new.tokens
-    _ c.in_err-place.field-0.0 c.from_residual.result (search rules)
-    (input_rows c.args.tokens.now) c.in_err-place.ensures.goes
-
-pub returns-in_err-sign-clause-goes : goal.returns-in_err-sign-clause-goes
-returns-in_err-sign-clause-goes c =
-    fault_goes s.input (s.sign r.Plain j.Semicolon) c.args.tokens.now c.declared.new.tokens c.sign.new.self _ c.in_err-sign.field-0.0
-    c.from_residual-in_err-sign.result (search rules)
-    (input_rows c.args.tokens.now ∙ bind_ok _ _ _ c.in_ok-place.ensures.goes) c.in_err-sign.ensures.goes
 
 pub returns-clause-goes : goal.returns-clause-goes
 returns-clause-goes c =

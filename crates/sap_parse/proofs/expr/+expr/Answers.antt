@@ -3,19 +3,16 @@ use Rattle.sap_parse.specs.Choices.{operator_at, unary_at}
 use Rattle.sap_parse.specs.Grammar as g
 use Rattle.sap_parse.specs.Joining.{join}
 use Rattle.sap_parse.specs.Reading.{ahead, steps_by, strictly}
-use Rattle.sap_parse.specs.Rows.{Between, between, between_row, last_number_row}
+use Rattle.sap_parse.specs.Rows.{Between, between}
 use Rattle.sap_parse.specs.Stages.{IsSign}
 use Rattle.sap_parse.specs.Table as s
 use Rattle.sap_parse.specs.declared.role.Role.TheVariants as r
-use Rattle.sap_lex.specs.declared.token.Sign.TheVariants as j
 use Rattle.sap_tree.specs.Prelude.{enclosed, first_of, expression_of, expressions_of}
 use Rattle.sap_tree.specs.declared.name.Mention.{Mention}
 use Rattle.sap_tree.specs.declared.syntax.Expr.{Expr}
 use Rattle.sap_tree.specs.Syntax as t
-use Rattle.sap_tree.specs.declared.word.Word.TheVariants as w
-use Rattle.sap_parse.proofs.ExprLaws.{after_name_there, bin_tail, choice_missing, expr_bin, operator_level, parts_missing, parts_there, post_name, post_prim, tail_there, unary_there}
-use Rattle.sap_parse.proofs.Faults.{fault_goes, fault_goes_in_row, fault_goes_on}
-use Rattle.sap_parse.proofs.IndexLaws.{bracket_index}
+use Rattle.sap_parse.proofs.ExprLaws.{bin_tail, choice_missing, expr_bin, operator_level, parts_missing, parts_there, tail_there, unary_there}
+use Rattle.sap_parse.proofs.Faults.{fault_goes}
 use Rattle.sap_parse.proofs.Makes.{both, choice_tree, concat_tree, from_to, indexed_post, indexes_tree, join_none, join_push, operand_tree, other_tree, paren_tree, post_tree, read_tree, sliced_post, unary_tree, unsigned_tree, zext_tree}
 use Rattle.sap_parse.proofs.RowLaws.{braces_row, choice_row, paren_row, row_steps, zext_row}
 use Rattle.sap_walk.proofs.Walking.{bind_ok, bind_pure}
@@ -194,149 +191,24 @@ zext-returns-clause-tree m c =
 
 -- where a part faults, and where all are read
 
-pub expr-returns-in_err-first-clause-goes : goal.expr-returns-in_err-first-clause-goes
-expr-returns-in_err-first-clause-goes m c =
-    fault_goes s.expr (s.bin 1) c.args.tokens.now c.args.tokens.now c.bin.new.tokens _ c.in_err-first.field-0.0 c.from_residual.result (search rules)
-    (expr_bin strictly c.args.tokens.now) c.in_err-first.ensures.goes
-
-pub expr-returns-in_err-place-clause-goes : goal.expr-returns-in_err-place-clause-goes
-expr-returns-in_err-place-clause-goes m c =
-    fault_goes_in_row s.expr (between_row r.Inner j.Question r.Inner j.Colon) c.args.tokens.now c.bin.new.tokens c.between.new.tokens
-    _ c.in_err-place.field-0.0 c.from_residual-in_err-place.result (search rules)
-    (expr_bin strictly c.args.tokens.now ∙ bind_ok _ _ _ c.in_ok-first.ensures.goes ∙ bind_pure _
-    ∙ choice_row c.bin.new.tokens (c.if-not-at_sign.ensures.yes refl)) c.in_err-place.ensures.goes
-
-pub expr-returns-in_err-other-clause-goes : goal.expr-returns-in_err-other-clause-goes
-expr-returns-in_err-other-clause-goes m c =
-    fault_goes s.expr s.expr c.args.tokens.now c.between.new.tokens c.expr.new.tokens _ c.in_err-other.field-0.0 c.from_residual-in_err-other.result (search rules)
-    (expr_bin strictly c.args.tokens.now ∙ bind_ok _ _ _ c.in_ok-first.ensures.goes ∙ bind_pure _
-    ∙ choice_row c.bin.new.tokens (c.if-not-at_sign.ensures.yes refl) ∙ bind_ok _ _ _ c.in_ok-place.ensures.goes) c.in_err-other.ensures.goes
-
 pub expr-returns-clause-goes : goal.expr-returns-clause-goes
 expr-returns-clause-goes m c =
     expr_bin strictly c.args.tokens.now ∙ bind_ok _ _ _ c.in_ok-first.ensures.goes ∙ bind_pure _
     ∙ choice_row c.bin.new.tokens (c.if-not-at_sign.ensures.yes refl) ∙ bind_ok _ _ _ c.in_ok-place.ensures.goes ∙ bind_pure _ ∙ c.in_ok-other.ensures.goes
 
-pub cell-returns-in_err-index-clause-goes : goal.cell-returns-in_err-index-clause-goes
-cell-returns-in_err-index-clause-goes m c =
-    fault_goes s.behind_bracket s.expr c.args.tokens.now c.args.tokens.now c.expr.new.tokens _ c.in_err-index.field-0.0 c.from_residual.result (search rules)
-    (bracket_index strictly c.args.tokens.now c.requires) c.in_err-index.ensures.goes
-
-pub cell-returns-in_err-sign-clause-goes : goal.cell-returns-in_err-sign-clause-goes
-cell-returns-in_err-sign-clause-goes m c =
-    fault_goes s.behind_bracket (s.sign r.Closing j.CloseBracket) c.args.tokens.now c.expr.new.tokens c.sign.new.self
-    _ c.in_err-sign.field-0.0 c.from_residual-in_err-sign.result (search rules)
-    (bracket_index strictly c.args.tokens.now c.requires ∙ bind_ok _ _ _ c.in_ok-index.ensures.goes) c.in_err-sign.ensures.goes
-
-pub named-returns-in_err-name-clause-goes : goal.named-returns-in_err-name-clause-goes
-named-returns-in_err-name-clause-goes m c =
-    fault_goes s.post (s.any_name r.Inner) c.args.tokens.now c.args.tokens.now c.name.new.self _ c.in_err-name.field-0.0 c.from_residual.result (search rules)
-    (post_name strictly c.args.tokens.now c.requires) c.in_err-name.ensures.goes
-
-pub named-returns-in_err-place-clause-goes : goal.named-returns-in_err-place-clause-goes
-named-returns-in_err-place-clause-goes m c =
-    fault_goes s.post (s.sign r.Opening j.OpenBracket) c.args.tokens.now c.name.new.self c.sign.new.self _ c.in_err-place.field-0.0
-    c.from_residual-in_err-place.result (search rules)
-    (post_name strictly c.args.tokens.now c.requires ∙ bind_ok _ _ _ c.in_ok-name.ensures.goes ∙ bind_pure _
-    ∙ after_name_there strictly c.name.new.self (c.if-not-at_sign.ensures.yes refl)) c.in_err-place.ensures.goes
-
-pub between-returns-in_err-place-clause-goes : goal.between-returns-in_err-place-clause-goes
-between-returns-in_err-place-clause-goes m c =
-    fault_goes_on (between_row c.args.opening c.args.left c.args.closing c.args.right) (s.sign c.args.opening c.args.left) c.args.tokens.now
-    c.args.tokens.now c.sign.new.self _ c.in_err-place.field-0.0 c.from_residual.result (search rules)
-    (row_steps _ _) c.in_err-place.ensures.goes
-
-pub between-returns-in_err-inner-clause-goes : goal.between-returns-in_err-inner-clause-goes
-between-returns-in_err-inner-clause-goes m c =
-    fault_goes_on (between_row c.args.opening c.args.left c.args.closing c.args.right) s.expr c.args.tokens.now c.sign.new.self
-    c.expr.new.tokens _ c.in_err-inner.field-0.0 c.from_residual-in_err-inner.result (search rules)
-    (row_steps _ _ ∙ bind_ok _ _ _ c.in_ok-place.ensures.goes) c.in_err-inner.ensures.goes
-
-pub between-returns-in_err-sign-clause-goes : goal.between-returns-in_err-sign-clause-goes
-between-returns-in_err-sign-clause-goes m c =
-    fault_goes_on (between_row c.args.opening c.args.left c.args.closing c.args.right) (s.sign c.args.closing c.args.right)
-    c.args.tokens.now c.expr.new.tokens c.sign-2.new.self _ c.in_err-sign.field-0.0 c.from_residual-in_err-sign.result (search rules)
-    (row_steps _ _ ∙ bind_ok _ _ _ c.in_ok-place.ensures.goes ∙ bind_ok _ _ _ c.in_ok-inner.ensures.goes) c.in_err-sign.ensures.goes
-
 pub between-returns-clause-goes : goal.between-returns-clause-goes
 between-returns-clause-goes m c =
     row_steps _ _ ∙ bind_ok _ _ _ c.in_ok-place.ensures.goes ∙ bind_ok _ _ _ c.in_ok-inner.ensures.goes ∙ bind_pure _ ∙ c.in_ok-sign.ensures.goes
-
-pub braces-returns-in_err-place-clause-goes : goal.braces-returns-in_err-place-clause-goes
-braces-returns-in_err-place-clause-goes m c =
-    fault_goes_in_row s.braces (between_row r.Opening j.OpenBrace r.Inner j.Comma) c.args.tokens.now c.args.tokens.now c.between.new.tokens
-    _ c.in_err-place.field-0.0 c.from_residual.result (search rules)
-    (braces_row c.args.tokens.now) c.in_err-place.ensures.goes
-
-pub braces-returns-in_err-second-clause-goes : goal.braces-returns-in_err-second-clause-goes
-braces-returns-in_err-second-clause-goes m c =
-    fault_goes s.braces s.expr c.args.tokens.now c.between.new.tokens c.expr.new.tokens _ c.in_err-second.field-0.0 c.from_residual-in_err-second.result (search rules)
-    (braces_row c.args.tokens.now ∙ bind_ok _ _ _ c.in_ok-place.ensures.goes) c.in_err-second.ensures.goes
-
-pub braces-returns-in_err-more_parts-clause-goes : goal.braces-returns-in_err-more_parts-clause-goes
-braces-returns-in_err-more_parts-clause-goes m c =
-    fault_goes s.braces s.parts c.args.tokens.now c.expr.new.tokens c.more_parts.new.tokens _ c.in_err-more_parts.field-0.0 c.from_residual-in_err-more_parts.result (search rules)
-    (braces_row c.args.tokens.now ∙ bind_ok _ _ _ c.in_ok-place.ensures.goes ∙ bind_ok _ _ _ c.in_ok-second.ensures.goes) c.in_err-more_parts.ensures.goes
-
-pub braces-returns-in_err-sign-clause-goes : goal.braces-returns-in_err-sign-clause-goes
-braces-returns-in_err-sign-clause-goes m c =
-    fault_goes s.braces (s.sign r.Closing j.CloseBrace) c.args.tokens.now c.more_parts.new.tokens c.sign.new.self _ c.in_err-sign.field-0.0
-    c.from_residual-in_err-sign.result (search rules)
-    (braces_row c.args.tokens.now ∙ bind_ok _ _ _ c.in_ok-place.ensures.goes ∙ bind_ok _ _ _ c.in_ok-second.ensures.goes
-    ∙ bind_ok _ _ _ c.in_ok-more_parts.ensures.goes) c.in_err-sign.ensures.goes
 
 pub braces-returns-clause-goes : goal.braces-returns-clause-goes
 braces-returns-clause-goes m c =
     braces_row c.args.tokens.now ∙ bind_ok _ _ _ c.in_ok-place.ensures.goes ∙ bind_ok _ _ _ c.in_ok-second.ensures.goes
     ∙ bind_ok _ _ _ c.in_ok-more_parts.ensures.goes ∙ bind_pure _ ∙ c.in_ok-sign.ensures.goes
 
-pub more_parts-returns-in_err-sign-clause-goes : goal.more_parts-returns-in_err-sign-clause-goes
-more_parts-returns-in_err-sign-clause-goes m c =
-    fault_goes s.parts (s.sign r.Inner j.Comma) c.args.tokens.now c.others.tokens c.sign.new.self _ c.in_err-sign.field-0.0 c.from_residual.result (search rules)
-    (c.others.invariant.goes ∙ parts_there strictly c.others.tokens (c.others-test.ensures.yes refl)) c.in_err-sign.ensures.goes
-
-pub more_parts-returns-in_err-part-clause-goes : goal.more_parts-returns-in_err-part-clause-goes
-more_parts-returns-in_err-part-clause-goes m c =
-    fault_goes s.parts s.expr c.args.tokens.now c.sign.new.self c.expr.new.tokens _ c.in_err-part.field-0.0 c.from_residual-in_err-part.result (search rules)
-    (c.others.invariant.goes ∙ parts_there strictly c.others.tokens (c.others-test.ensures.yes refl) ∙ bind_ok _ _ _ c.in_ok-sign.ensures.goes) c.in_err-part.ensures.goes
-
-pub zext-returns-in_err-place-clause-goes : goal.zext-returns-in_err-place-clause-goes
-zext-returns-in_err-place-clause-goes m c =
-    fault_goes s.zext (s.word r.Inner w.Zext) c.args.tokens.now c.args.tokens.now c.word.new.self _ c.in_err-place.field-0.0 c.from_residual.result (search rules)
-    (zext_row c.args.tokens.now) c.in_err-place.ensures.goes
-
-pub zext-returns-in_err-operand-clause-goes : goal.zext-returns-in_err-operand-clause-goes
-zext-returns-in_err-operand-clause-goes m c =
-    fault_goes_in_row s.zext (between_row r.Opening j.OpenParen r.Inner j.Comma) c.args.tokens.now c.word.new.self c.between.new.tokens
-    _ c.in_err-operand.field-0.0 c.from_residual-in_err-operand.result (search rules)
-    (zext_row c.args.tokens.now ∙ bind_ok _ _ _ c.in_ok-place.ensures.goes) c.in_err-operand.ensures.goes
-
-pub zext-returns-in_err-width-clause-goes : goal.zext-returns-in_err-width-clause-goes
-zext-returns-in_err-width-clause-goes m c =
-    fault_goes_in_row s.zext (last_number_row j.CloseParen) c.args.tokens.now c.between.new.tokens c.last_number.new.tokens
-    _ c.in_err-width.field-0.0 c.from_residual-in_err-width.result (search rules)
-    (zext_row c.args.tokens.now ∙ bind_ok _ _ _ c.in_ok-place.ensures.goes ∙ bind_ok _ _ _ c.in_ok-operand.ensures.goes ∙ sym (bind_pure _)) c.in_err-width.ensures.goes
-
 pub zext-returns-clause-goes : goal.zext-returns-clause-goes
 zext-returns-clause-goes m c =
     zext_row c.args.tokens.now ∙ bind_ok _ _ _ c.in_ok-place.ensures.goes ∙ bind_ok _ _ _ c.in_ok-operand.ensures.goes ∙ c.in_ok-width.ensures.goes
 
-pub paren-returns-in_err-place-clause-goes : goal.paren-returns-in_err-place-clause-goes
-paren-returns-in_err-place-clause-goes m c =
-    fault_goes_in_row s.paren (between_row r.Opening j.OpenParen r.Closing j.CloseParen) c.args.tokens.now c.args.tokens.now
-    c.between.new.tokens _ c.in_err-place.field-0.0 c.from_residual.result (search rules)
-    (paren_row c.args.tokens.now ∙ sym (bind_pure _)) c.in_err-place.ensures.goes
-
 pub paren-returns-clause-goes : goal.paren-returns-clause-goes
 paren-returns-clause-goes m c =
     paren_row c.args.tokens.now ∙ c.in_ok-place.ensures.goes
-
-pub bin-returns-in_err-first-clause-goes : goal.bin-returns-in_err-first-clause-goes
-bin-returns-in_err-first-clause-goes m c =
-    fault_goes (s.bin c.args.level) (s.bin (c.args.level + 1)) c.args.tokens.now c.args.tokens.now c.bin.new.tokens _ c.in_err-first.field-0.0 c.from_residual.result (search rules)
-    (bin_tail strictly c.args.tokens.now c.args.level (omega arith)) c.in_err-first.ensures.goes
-
-pub post-returns-in_err-first-clause-goes : goal.post-returns-in_err-first-clause-goes
-post-returns-in_err-first-clause-goes m c =
-    fault_goes s.post s.prim c.args.tokens.now c.args.tokens.now c.prim.new.tokens _ c.in_err-first.field-0.0 c.from_residual.result (search rules)
-    (post_prim strictly c.args.tokens.now (c.if-at_name.ensures.no refl)) c.in_err-first.ensures.goes

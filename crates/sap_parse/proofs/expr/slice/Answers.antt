@@ -1,12 +1,9 @@
-use Rattle.std.proofs.Common.{◌∙◌, ap, rules}
-use Rattle.sap_parse.specs.Rows.{range_row}
+use Rattle.std.proofs.Common.{◌∙◌, ap}
 use Rattle.sap_parse.specs.Table as s
 use Rattle.sap_tree.specs.Syntax as t
 use Rattle.sap_tree.specs.Trees.{expression_of}
 use Rattle.sap_tree.specs.declared.syntax.Expr.{Expr}
-use Rattle.sap_parse.proofs.Faults.{fault_goes_in_row}
 use Rattle.sap_parse.proofs.Makes.{both, from_to, slices_tree}
-use Rattle.sap_parse.proofs.RowLaws.{bracket_row}
 use Rattle.sap_parse.proofs.expr.slice.Goals as goal
 
 pub returns-clause-tree : goal.returns-clause-tree
@@ -16,8 +13,3 @@ returns-clause-tree c =
     (c.slice.ensures ∙ ap (λ x. t.slice (from_to c.args.name.place c.args.place) x c.in_ok-high.high c.in_ok-high.low)
     (ap (λ (x : Expr). expression_of x) c.in_ok-operand.ensures.ok ∙ c.read.ensures ∙ ap (λ s. t.variable s c.args.name.name) c.spot.ensures))
     c.slices.ensures.tree
-
-pub returns-in_err-high-clause-goes : goal.returns-in_err-high-clause-goes
-returns-in_err-high-clause-goes c =
-    fault_goes_in_row s.behind_bracket range_row c.args.tokens.now c.args.tokens.now c.range.new.tokens _ c.in_err-high.field-0.0 c.from_residual.result (search rules)
-    (bracket_row c.args.tokens.now c.requires.number c.requires.colon) c.in_err-high.ensures.goes

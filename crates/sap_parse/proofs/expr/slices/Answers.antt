@@ -1,11 +1,9 @@
 use Rattle.std.proofs.Common.{◌∙◌, sym, ap, subst, refl, rules, arith}
 use Rattle.sap_parse.specs.Grammar as g
 use Rattle.sap_parse.specs.Reading.{strictly}
-use Rattle.sap_parse.specs.Table as s
 use Rattle.sap_tree.specs.Prelude.{first_of, expression_of}
 use Rattle.sap_tree.specs.declared.syntax.Expr.{Expr}
-use Rattle.sap_parse.proofs.ExprLaws.{slices_missing, slices_there}
-use Rattle.sap_parse.proofs.Faults.{fault_goes}
+use Rattle.sap_parse.proofs.ExprLaws.{slices_missing}
 use Rattle.sap_parse.proofs.Makes.{cut_tree}
 use Rattle.sap_parse.proofs.Walks.{cutting}
 use Rattle.sap_parse.proofs.expr.slices.Goals as goal
@@ -26,8 +24,3 @@ pub returns-clause-tree : goal.returns-clause-tree
 returns-clause-tree c =
     subst (λ (x : Expr). g.Cuts (expression_of c.args.operand) c.args.tokens.now (expression_of x) c.cuts.tokens) (sym c.into_inner.ensures)
     (c.cuts.invariant.tree _ _ g.no_cut)
-
-pub returns-in_err-cut-clause-goes : goal.returns-in_err-cut-clause-goes
-returns-in_err-cut-clause-goes c =
-    fault_goes s.slices s.slice c.args.tokens.now c.cuts.tokens c.bounds.new.tokens _ c.in_err-cut.field-0.0 c.from_residual-in_err-cut.result (search rules)
-    (c.cuts.invariant.goes ∙ slices_there strictly c.cuts.tokens (c.cuts-test.ensures.yes refl)) c.in_err-cut.ensures.goes

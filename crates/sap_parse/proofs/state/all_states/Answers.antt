@@ -1,11 +1,8 @@
-use Rattle.std.proofs.Common.{◌∙◌, ◌++◌, ◌∷◌, [], List, ap, rules}
-use Rattle.sap_parse.specs.DesignRows.{all_states_row}
+use Rattle.std.proofs.Common.{◌∙◌, ◌++◌, ◌∷◌, [], List, ap}
 use Rattle.sap_parse.specs.Joining.{join_states}
-use Rattle.sap_parse.specs.Table as s
 use Rattle.sap_tree.specs.Trees.{states_of}
 use Rattle.sap_tree.specs.declared.syntax.State.{State}
 use Rattle.sap_parse.proofs.DesignMakes.{all_states_tree}
-use Rattle.sap_parse.proofs.Faults.{fault_goes_on}
 use Rattle.sap_parse.proofs.RowLaws.{row_steps}
 use Rattle.sap_walk.proofs.Walking.{bind_ok, bind_pure}
 use Rattle.sap_parse.proofs.state.all_states.Goals as goal
@@ -16,17 +13,6 @@ returns-clause-tree c =
     all_states_tree c.in_ok-first.ensures.tree rest.2
     (rest.1 ∙ ap (λ (v : List State). join_states (states_of v) rest.0) (c.in_ok-push.ensures.items
     ∙ ap (λ (v : List State). v ++ c.in_ok-first.first ∷ []) c.new-list.ensures.items))
-
-pub returns-in_err-first-clause-goes : goal.returns-in_err-first-clause-goes
-returns-in_err-first-clause-goes c =
-    fault_goes_on all_states_row (s.state 1) c.args.tokens.now c.args.tokens.now c.state.new.tokens _ c.in_err-first.field-0.0 c.from_residual.result (search rules)
-    (row_steps _ _) c.in_err-first.ensures.goes
-
-pub returns-in_err-last_states-clause-goes : goal.returns-in_err-last_states-clause-goes
-returns-in_err-last_states-clause-goes c =
-    fault_goes_on all_states_row s.last_states c.args.tokens.now c.state.new.tokens c.last_states.new.tokens
-    _ c.in_err-last_states.field-0.0 c.from_residual-in_err-last_states.result (search rules)
-    (row_steps _ _ ∙ bind_ok _ _ _ c.in_ok-first.ensures.goes) c.in_err-last_states.ensures.goes
 
 pub returns-clause-goes : goal.returns-clause-goes
 returns-clause-goes c =

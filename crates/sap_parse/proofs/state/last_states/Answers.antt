@@ -1,13 +1,11 @@
-use Rattle.std.proofs.Common.{◌∙◌, sym, ap, refl, arith, rules}
+use Rattle.std.proofs.Common.{◌∙◌, sym, ap, refl, arith}
 use Rattle.sap_parse.specs.Grammar as g
 use Rattle.sap_parse.specs.Joining.{join_states}
 use Rattle.sap_parse.specs.Reading.{strictly}
-use Rattle.sap_parse.specs.Table as s
 use Rattle.sap_tree.specs.Syntax as t
 use Rattle.sap_tree.specs.Trees.{state_of, states_of}
 use Rattle.sap_parse.proofs.DesignLaws.{last_states_end, last_states_other, last_states_there}
 use Rattle.sap_parse.proofs.DesignMakes.{join_states_none, join_states_push}
-use Rattle.sap_parse.proofs.Faults.{fault_goes}
 use Rattle.sap_walk.proofs.Walking.{bind_ok, bind_pure}
 use Rattle.sap_parse.proofs.state.last_states.Goals as goal
 
@@ -30,8 +28,3 @@ returns-then-at_end-clause-tree c =
 
 pub returns-else-at_end-clause-goes : goal.returns-else-at_end-clause-goes
 returns-else-at_end-clause-goes c = c.states.invariant.goes ∙ last_states_other strictly c.states.tokens (c.states-test.ensures.no refl) (c.if-at_end.ensures.no refl)
-
-pub returns-in_err-next-clause-goes : goal.returns-in_err-next-clause-goes
-returns-in_err-next-clause-goes c =
-    fault_goes s.last_states (s.state 1) c.args.tokens.now c.states.tokens c.state.new.tokens _ c.in_err-next.field-0.0 c.from_residual.result (search rules)
-    (c.states.invariant.goes ∙ last_states_there strictly c.states.tokens (c.states-test.ensures.yes refl)) c.in_err-next.ensures.goes
