@@ -6,7 +6,7 @@ use Rattle.sap_vtext.specs.Faults
 use Rattle.sap_text.specs.Best.{StandsIn}
 use Rattle.sap_vtext.specs.Names.{Declaration, port_declaration, item_declarations, declarations, shape_in, Above, IsItemOf, shape_above, Setting, Target, target_of, is_target, is_set, is_integer, has_integer, assign, known_above}
 use Rattle.sap_vtext.specs.Widths.{value_width, unary_pairs, unary_rule, binary_pairs, binary_rule, slice_width, memory_width, wire_width, register_width, operand_width, parts_width, right_pairs, pairs, add_widths}
-use Rattle.sap_vtext.specs.Faults.{is_settable, Use, operand_uses, right_uses, uses, operand_constants, right_constants, constants, ranges, right_indexes, indexes, operand_place, V3, V4, V5, V6, V7, IsFaultless}
+use Rattle.sap_vtext.specs.Faults.{is_settable, Use, operand_uses, right_uses, uses, operand_constants, right_constants, constants, ranges, right_indexes, indexes, operand_place, V3, V4, V5, V6, V7}
 use Rattle.sap_explain.proofs.Moved.{moved_name, moved_number, moved_constant, moved_operand, moved_right, moved_item, moved_port, moved}
 
 module _ (move : ℕ → ℕ) where

@@ -1,6 +1,6 @@
 -- A file whose places are moved has the same netlist.
 use Rattle.sap_lemmas.proofs.Common.{◌≡◌, ℕ, List, [], ◌∷◌, refl, sym, ap, ◌∙◌, map}
-use Rattle.sap_vtext.specs.Items.{Operand, Right, Port, Item, File}
+use Rattle.sap_vtext.specs.Items.{Operand, Right, Item, File}
 use Rattle.sap_vtext.specs.Items as item
 use Rattle.sap_vtext.specs.Modules.{netlist_of}
 use Rattle.sap_vtext.proofs.Bare.{bare_name, bare_operand, bare_right, bare_item, bare_port, bare}
