@@ -102,7 +102,7 @@ level_word names keeps k l = elim (cases_Bool (is_word (name_at names k))) [
   | inr f ↦ absurd (keeps.named k (l, no_word f))
 ]
 
-each_at : (P : List ℕ → Type 0) (names : List (List ℕ)) → ((k : ℕ) → k < length names → P (name_at names k)) → AllByRecursion P names
+pub each_at : (P : List ℕ → Type 0) (names : List (List ℕ)) → ((k : ℕ) → k < length names → P (name_at names k)) → AllByRecursion P names
 each_at P [] h = tt
 each_at P (x ∷ xs) h = (h 0 (omega arith), each_at P xs (λ k l. h (suc k) (omega (arith, l))))
 

@@ -1,13 +1,9 @@
 -- The lines of levels, from a place on.
 use Rattle.sap_lemmas.proofs.Common.{◌≡◌, ℕ, suc, ◌+◌, ◌<◌, ◌≤◌, List, [], ◌++◌, length, drop, ap, ◌∙◌, arith, drop-cons, after_part, codes, drop_past}
 use Rattle.sap_lattice.specs.Prelude.{name_at, code_of, Levels, order_of}
-use Rattle.sap_lattice.proofs.LevelsLemmas.{level_in_same}
 use Rattle.sap_report.specs.Report.{level_line}
-use Rattle.sap_report.proofs.LevelLines.{at_place}
 use Rattle.sap_report.proofs.Lists.{at_end}
 use Rattle.sap_explain.specs.Explanation.{level_comments}
-
-pub ruleset levels = (at_place, level_in_same)
 
 abbrev line_of : Levels → ℕ → List ℕ
 line_of ls n = codes "// " ++ level_line (name_at ls.names n) (code_of (order_of ls) n)

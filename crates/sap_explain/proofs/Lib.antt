@@ -8,3 +8,5 @@ pub mod LevelLines
 pub mod GroupLines
 pub mod SiteLines
 pub mod CommentLines
+pub mod PartLines
+pub mod ExplainedTexts

@@ -85,7 +85,10 @@ design_comments part d = group_comments part d ++ site_comments part (entities_o
 abbrev pub explanation : Levels → DesignTree → List ℕ
 explanation ls d = level_comments ls 0 ls.names ++ design_comments [] d
 
--- What explains the module of a system: the levels once, and then each part under its name.
+-- The groups and the check sites of each part of a system, under the part's name.
+abbrev pub part_comments : List NamedDesign → List ℕ
+part_comments designs = flat_map (λ (d : NamedDesign). design_comments d.name d.design) designs
+
+-- What explains the module of a system: the levels once, and then its parts.
 abbrev pub system_explanation : Levels → List NamedDesign → List ℕ
-system_explanation ls designs =
-    level_comments ls 0 ls.names ++ flat_map (λ (d : NamedDesign). design_comments d.name d.design) designs
+system_explanation ls designs = level_comments ls 0 ls.names ++ part_comments designs

@@ -1,4 +1,4 @@
-//! What explains the module of a design, and a part of a system.
+//! What explains the module of a design.
 
 ghost use Rattle.std.specs.Prelude.{◌≡◌, ◌++◌, IfOk, OnOk};
 ghost use Rattle.sap_check.specs.Checked.{levels_in, tree_in};
@@ -16,7 +16,11 @@ use sap_desk::Bytes;
 use std::alloc::{AllocError, Global};
 
 /// Appends the lines of the groups and of the check sites of a design. In the module of a system it is a part of this name; an empty name stands for none.
-pub fn push_design(out: &mut Vec<u8>, part: &[u8], checked: &Checked) -> Result<(), AllocError>
+pub(crate) fn push_design(
+    out: &mut Vec<u8>,
+    part: &[u8],
+    checked: &Checked,
+) -> Result<(), AllocError>
     ensures { OnOk result (out.new.items ≡ out.old.items ++ design_comments part.now (tree_in checked.now)) }
 {
     let states = checked.design().states.as_slice();

@@ -1,14 +1,16 @@
 //! What comment lines do to a module, and that the lines that explain one are such.
 
 ghost use Rattle.std.specs.Prelude.{◌≡◌, true};
-ghost use Rattle.std.specs.List.{list_all};
+ghost use Rattle.std.specs.List.{AllByRecursion, list_all};
 ghost use Rattle.sap_check.specs.Checked.{tree_in};
 ghost use Rattle.sap_text.specs.Blanks.{is_in_line};
 ghost use Rattle.sap_explain.specs.Comments.{AreCommentLines, CommentsChangeNothing};
-ghost use Rattle.sap_explain.specs.Explanation.{design_comments, level_comments};
+ghost use Rattle.sap_linker.specs.Given.{design_names, designs_of};
+ghost use Rattle.sap_explain.specs.Explanation.{design_comments, level_comments, part_comments};
 
 use sap_check::Checked;
 use sap_lattice::lattice::Lattice;
+use sap_linker::LinkedPart;
 use sap_tree::whole::design_is_whole;
 
 /// Comment lines before a text change nothing.
@@ -29,4 +31,14 @@ pub fn design_is_comments(part: &[u8], checked: &Checked)
     ensures { AreCommentLines (design_comments part.now (tree_in checked.now)) }
 {
     design_is_whole(checked.design());
+}
+
+/// The lines of the parts of a system are comment lines.
+pub fn parts_are_comments(parts: &[LinkedPart<'_>])
+    requires { AllByRecursion (λ name. list_all is_in_line name ≡ true) (design_names (designs_of parts.now)) }
+    ensures { AreCommentLines (part_comments (designs_of parts.now)) }
+{
+    for part in parts {
+        design_is_comments(part.name.as_bytes(), part.checked);
+    }
 }

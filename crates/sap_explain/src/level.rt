@@ -8,28 +8,23 @@ ghost use Rattle.sap_report.specs.Report.{level_line};
 ghost use Rattle.sap_explain.specs.Explanation.{level_comments};
 
 use sap_lattice::lattice::Lattice;
-use sap_text::digits::push_number;
+use sap_report::level::push_level;
 use std::alloc::AllocError;
 
-#[tactic(auto, using(crate::proofs::LevelLines::levels))]
-fn push_level(out: &mut Vec<u8>, lattice: &Lattice, place: u32) -> Result<(), AllocError>
+fn push_comment(out: &mut Vec<u8>, lattice: &Lattice, place: u32) -> Result<(), AllocError>
     requires { place < length lattice.now.names }
     ensures { OnOk result (out.new.items ≡ out.old.items ++ (codes "// " ++ level_line (name_at lattice.now.names place) (code_of (order_of lattice.now) place))) }
 {
-    let level = lattice.level_at(u64::from(place));
-    out.extend_from_slice(b"// level ")?;
-    out.extend_from_slice(lattice.name(level).as_bytes())?;
-    out.extend_from_slice(b" ")?;
-    push_number(out, lattice.code(level))?;
-    out.extend_from_slice(b"\n")
+    out.extend_from_slice(b"// ")?;
+    push_level(out, lattice, place)
 }
 
 /// Appends the lines of the levels.
-pub fn push_levels(out: &mut Vec<u8>, lattice: &Lattice) -> Result<(), AllocError>
+pub(crate) fn push_levels(out: &mut Vec<u8>, lattice: &Lattice) -> Result<(), AllocError>
     ensures { OnOk result (out.new.items ≡ out.old.items ++ level_comments lattice.now 0 lattice.now.names) }
 {
     for place in 0..lattice.count() {
-        push_level(out, lattice, place)?;
+        push_comment(out, lattice, place)?;
     }
     Ok(())
 }

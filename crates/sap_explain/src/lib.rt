@@ -8,6 +8,7 @@ pub mod laws;
 mod level;
 mod name;
 mod site;
+mod system;
 
-pub use explain::{explained, push_design};
-pub use level::push_levels;
+pub use explain::explained;
+pub use system::explained_system;

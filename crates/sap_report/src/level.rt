@@ -10,8 +10,9 @@ use sap_lattice::lattice::Lattice;
 use sap_text::digits::push_number;
 use std::alloc::AllocError;
 
+/// Appends the line of the level at a place of the lattice's file.
 #[tactic(auto, using(crate::proofs::LevelLines::levels))]
-fn push_level(out: &mut Vec<u8>, lattice: &Lattice, place: u32) -> Result<(), AllocError>
+pub fn push_level(out: &mut Vec<u8>, lattice: &Lattice, place: u32) -> Result<(), AllocError>
     requires { place < length lattice.now.names }
     ensures { OnOk result (out.new.items ≡ out.old.items ++ level_line (name_at lattice.now.names place) (code_of (order_of lattice.now) place)) }
 {

@@ -2,7 +2,7 @@
 #![tactic(auto)]
 
 pub mod examples;
-mod level;
+pub mod level;
 mod point;
 pub mod report;
 mod site;

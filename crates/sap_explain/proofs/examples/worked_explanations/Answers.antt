@@ -12,3 +12,7 @@ returns-clause-one_state c = refl
 pub returns-clause-two_children : goal.returns-clause-two_children
 unfolding digits site_target groups_below
 returns-clause-two_children c = (refl, refl)
+
+pub returns-clause-two_parts : goal.returns-clause-two_parts
+unfolding digits order_of order_by code_of meet_irreducibles site_target groups_below
+returns-clause-two_parts c = refl
