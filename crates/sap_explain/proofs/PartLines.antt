@@ -1,5 +1,5 @@
 -- The lines of the parts of a system, from a part on.
-use Rattle.sap_lemmas.proofs.Common.{◌≡◌, ℕ, zero, suc, ◌+◌, ◌<◌, ◌≤◌, List, [], ◌∷◌, ◌++◌, length, map, drop, get_or, sym, ap, ◌∙◌, subst, arith, inl, inr, at_drop_all, at_drop_more, after_part, cases_Bool, length_map, AllByRecursion}
+use Rattle.sap_lemmas.proofs.Common.{◌≡◌, ℕ, zero, suc, ◌+◌, ◌<◌, ◌≤◌, List, [], ◌∷◌, ◌++◌, length, drop, get_or, sym, ap, ◌∙◌, subst, arith, inl, inr, at_drop_all, at_drop_more, after_part, cases_Bool, length_map, AllByRecursion}
 use Rattle.sap_text.specs.Names.{is_word}
 use Rattle.sap_lattice.specs.Closure.{name_at}
 use Rattle.sap_lattice.specs.Rules.{no_word}
