@@ -60,10 +60,11 @@ levels_in l m same k (name ∷ names) =
     ap (λ (o : Order). codes "// " ++ level_line name (code_of o k) ++ level_comments l (k + 1) names) same.order
     ∙ ap (λ (text : List ℕ). codes "// " ++ level_line name (code_of (order_of m) k) ++ text) (levels_in l m same (k + 1) names)
 
+pub level_lines_in : (l m : Levels) → AreSame l m → level_comments l 0 l.names ≡ level_comments m 0 m.names
+level_lines_in l m same = levels_in l m same 0 l.names ∙ ap (λ (names : List (List ℕ)). level_comments m 0 names) same.names
+
 explanation_in : (l m : Levels) → AreSame l m → (d : DesignTree) → explanation l d ≡ explanation m d
-explanation_in l m same d =
-    ap (λ (text : List ℕ). text ++ design_comments [] d) (levels_in l m same 0 l.names)
-    ∙ ap (λ (names : List (List ℕ)). level_comments m 0 names ++ design_comments [] d) same.names
+explanation_in l m same d = ap (λ (text : List ℕ). text ++ design_comments [] d) (level_lines_in l m same)
 
 pub text_in : (l m : Levels) → AreSame l m → (d : DesignTree) (text : List ℕ) → IsModuleText l d text → IsModuleText m d text
 text_in l m same d text (net, is, explained) =

@@ -1,5 +1,5 @@
 -- Two lattices that are the same have the same systems.
-use Rattle.sap_lemmas.proofs.Common.{◌≡◌, ℕ, ◌+◌, ◌*◌, ◌≤◌, List, [], ◌∷◌, length, map, sum_by, take, refl, ap, ap₂, subst, inl, inr, Option, Result, Ok, Err, AllZip, all_follow}
+use Rattle.sap_lemmas.proofs.Common.{◌≡◌, ℕ, ◌+◌, ◌*◌, ◌≤◌, List, [], ◌∷◌, ◌++◌, length, map, sum_by, take, refl, ap, ap₂, subst, inl, inr, Option, Result, Ok, Err, AllZip, all_follow}
 use Rattle.sap_desk.specs.Desk.{Told}
 use Rattle.sap_lattice.specs.Prelude.{Levels, Order}
 use Rattle.sap_latfile.specs.OneLattice.{AreSame}
@@ -27,6 +27,8 @@ use Rattle.sap_linker.specs.Given.{surroundings}
 use Rattle.sap_linker.specs.Linking.{IsLinked}
 use Rattle.sap_linker.specs.Modules.{IsModuleOfSystem}
 use Rattle.sap_linker.specs.Sizes.{IsSmallSystem}
+use Rattle.sap_explain.specs.Explained.{IsExplained}
+use Rattle.sap_explain.specs.Explanation.{part_comments, system_explanation}
 use Rattle.sap_files.specs.Prelude.{Ending, EndsReading, Moment, Refuses}
 use Rattle.sap_files.specs.declared.failure.Failure.{Failure}
 use Rattle.sap_files.proofs.Alike.{named_in}
@@ -34,6 +36,7 @@ use Rattle.sap_files.proofs.Designs.{fault_in, text_in, well_formed_in}
 use Rattle.sap_files.proofs.Programs.{program_in}
 use Rattle.sap_files.specs.Kinds.{part_file}
 use Rattle.sap_commands.specs.Link.{EndsAtPart, HasPart, Links, ReadsParts, stop_of}
+use Rattle.sap_commands.proofs.ModulesAlike.{level_lines_in}
 use Rattle.sap_files.specs.declared.failure.DesignFailure.{DesignFailure}
 
 module _ (l m : Levels) (same : AreSame l m) where
@@ -125,9 +128,15 @@ module _ (l m : Levels) (same : AreSame l m) where
       (λ (names : List (List ℕ)). items n ≤ sum_by (λ (d : NamedDesign). 8 * (1 + design_nodes d.design) * (1 + entity_count d.design + length names)) ds + 5 * wires)
       same.names
 
+  explained_in : (ds : List NamedDesign) (text : List ℕ) (n : Net) → IsExplained (system_explanation l ds) text n → IsExplained (system_explanation m ds) text n
+  explained_in ds text n =
+      subst (λ (lines : List ℕ). IsExplained lines text n) (ap (λ (lines : List ℕ). lines ++ part_comments ds) (level_lines_in l m same))
+
   pub links_in : (ds : List NamedDesign) (texts : List WireText) (r : Result (List ℕ) Failure) → Links l ds texts r → Links m ds texts r
-  links_in ds texts (Ok text) (keeps, (n, is_module, is, small)) =
-      (subst (λ (u : Surroundings). KeepsWires u texts) (surroundings_in ds) keeps, (n, is_module, linked_in ds texts n is, small_in ds (length texts) n small))
+  links_in ds texts (Ok text) (keeps, (n, is_module, is, small, explained)) = (
+    subst (λ (u : Surroundings). KeepsWires u texts) (surroundings_in ds) keeps,
+    (n, is_module, linked_in ds texts n is, small_in ds (length texts) n small, explained_in ds text n explained),
+  )
   links_in ds texts (Err e) (inl is) = inl is
   links_in ds texts (Err e) (inr (fault, first, is)) =
       inr (fault, subst (λ (u : Surroundings). FirstLinkFault u texts fault) (surroundings_in ds) first, is)

@@ -18,6 +18,8 @@ use Rattle.sap_linked.specs.Designs.{NamedDesign, IsNetOfDesign}
 use Rattle.sap_linker.specs.Given.{surroundings}
 use Rattle.sap_linker.specs.Linking.{IsLinked}
 use Rattle.sap_linker.specs.Sizes.{IsSmallSystem}
+use Rattle.sap_explain.specs.Explained.{IsExplained}
+use Rattle.sap_explain.specs.Explanation.{system_explanation}
 use Rattle.sap_files.specs.Ending.{Ending, refused, failed, no_memory, part_refused, wires_refused}
 use Rattle.sap_files.specs.Contents.{IsWellFormedText}
 use Rattle.sap_files.specs.Kinds.{lattice_file, part_file, system_file}
@@ -31,9 +33,10 @@ use Rattle.sap_files.specs.declared.refusal.Refusal.TheVariants as refusal
 use Rattle.sap_commands.specs.declared.link.LoadedPart.{LoadedPart}
 
 -- The text is one of the module of these designs, and of the wires that these texts stand for, and the module is small.
+-- The text begins with the lines that explain the module.
 abbrev pub IsLinkedText : Levels → List NamedDesign → List WireText → (text : List ℕ) → Type 0
 IsLinkedText ls designs wires text = (net : Net) × IsModule text net × IsLinked ls designs wires net
-    × IsSmallSystem ls designs (length wires) net
+    × IsSmallSystem ls designs (length wires) net × IsExplained (system_explanation ls designs) text net
 
 -- The first rule that the wires break, where they break one.
 abbrev pub FirstBroken : Surroundings → List WireText → Option LinkFault → Type 0

@@ -8,13 +8,16 @@ ghost use Rattle.sap_share.specs.Copying.{CopiesPorts};
 ghost use Rattle.sap_system.specs.Rules.{part_names};
 ghost use Rattle.sap_system.specs.declared.file.Part.{Part as AnyPart};
 ghost use Rattle.sap_linked.specs.Designs.{IsNetOfDesign};
-ghost use Rattle.sap_linker.specs.Given.{design_names, design_with_net};
+ghost use Rattle.sap_linker.specs.Given.{design_names, design_with_net, designs_of};
+ghost use Rattle.sap_explain.specs.Explained.{IsExplained};
+ghost use Rattle.sap_explain.specs.Explanation.{system_explanation};
 ghost use Rattle.sap_commands.specs.Link.{EndsAtPart, GetsPart, HasNet, Links, ReadsParts, asks_link, loaded_designs, loaded_net, stop_of, wires_failure};
 ghost use Rattle.sap_files.specs.Steps.{Ends, ending, ending_of, seen};
 
 use sap_check::Checked;
 use sap_compile::design_netlist;
 use sap_desk::{Bytes, Desk};
+use sap_explain::explained_system;
 use sap_files::failure::{DesignFailure, Failure};
 use sap_files::refusal::Refusal;
 use sap_files::{design_of_file, lattice_of_file, system_of_file, write};
@@ -134,6 +137,21 @@ fn failure_at<'a>(system: SystemFile, stopped: StoppedAt) -> Failure<'a>
     }
 }
 
+// The text of a netlist as a module, after the lines that explain the parts of a system.
+fn explained_text(
+    alloc: Global,
+    lattice: &Lattice,
+    system: &SystemFile,
+    parts: &[LinkedPart<'_>],
+    netlist: &Netlist,
+) -> Result<Bytes, AllocError>
+    requires { design_names (designs_of parts.now) ≡ part_names system.now.parts }
+    ensures { IfOk result (λ text. IsExplained (system_explanation lattice.now (designs_of parts.now)) text netlist.now) }
+{
+    let plain = print(alloc, netlist)?;
+    explained_system(alloc, lattice, system, parts, &plain)
+}
+
 // The text of the module of parts, and of the wires of their system file.
 fn linked_text<'a>(
     alloc: Global,
@@ -145,9 +163,10 @@ fn linked_text<'a>(
     requires nets { AllByRecursion (HasNet lattice.now) loaded.now }
     ensures { Links lattice.now (loaded_designs loaded.now) system.now.wires result }
 {
-    let parts = linked_parts(alloc, loaded)?;
-    match link_parts(alloc, lattice, system, &parts) {
-        Ok(netlist) => Ok(print(alloc, &netlist)?),
+    let handed = linked_parts(alloc, loaded)?;
+    let parts = handed.as_slice();
+    match link_parts(alloc, lattice, system, parts) {
+        Ok(netlist) => Ok(explained_text(alloc, lattice, system, parts, &netlist)?),
         Err(fault) => Err(wires_failure(fault)),
     }
 }

@@ -30,7 +30,7 @@ use Rattle.sapper.proofs.Headline.{by_cause, done_alone}
 use Rattle.sapper.proofs.Waves.{past_file, refused_at, zero_of}
 
 means : (ls : Levels) (designs : List NamedDesign) (wires : List WireText) (text : List ℕ) → IsLinkedText ls designs wires text → MeansSystem ls designs wires text
-means ls designs wires text (net, is, linked, small) = record {
+means ls designs wires text (net, is, linked, small, explained) = record {
   net = net;
   is_module = is;
   no_other = λ other other_is. one_module text other net other_is is;

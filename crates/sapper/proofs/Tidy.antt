@@ -22,7 +22,7 @@ use Rattle.sap_files.specs.Kinds.{part_file, system_file}
 use Rattle.sap_files.proofs.Systems.{part_lawful, system_lawful}
 use Rattle.sap_commands.specs.Commands.{IsModuleText, asks, asks_for, asks_if}
 use Rattle.sap_explain.specs.Explained.{IsExplained}
-use Rattle.sap_explain.specs.Explanation.{explanation}
+use Rattle.sap_explain.specs.Explanation.{explanation, system_explanation}
 use Rattle.sapper.specs.Answers.{Answers}
 use Rattle.sapper.specs.Explains.{Explains}
 use Rattle.sapper.specs.Links.{AreForLink, HasDesign}
@@ -34,7 +34,7 @@ of_design : (ls : Levels) (d : DesignTree) (text : List ℕ) → IsModuleText ls
 of_design ls d text (net, is, explained) = record { net = net; is_module = is.is_module; tidy = is.tidy; small = is.small }
 
 of_system : (ls : Levels) (designs : List NamedDesign) (wires : List WireText) (text : List ℕ) → IsLinkedText ls designs wires text → IsWellMadeSystem ls designs wires text
-of_system ls designs wires text (net, is, linked, small) = record {
+of_system ls designs wires text (net, is, linked, small, explained) = record {
   wires = linked.wires;
   of_texts = linked.of_texts;
   made = record { net = net; is_module = is; tidy = linked.is_module.tidy; small = small };
@@ -89,32 +89,46 @@ module _ (lattice design out : List ℕ) (t n : Told) (ls : Levels) (d : DesignT
   explained more = let (text, left, module_for) = compiled more in (text, left, (module_for.0, module_for.2))
 
 module _ (lattice system out : List ℕ) (answer : ℕ) (t n : Told) (ls : Levels) (s : Listing) (designs : List NamedDesign) (are : AreForLink lattice system t ls s designs) where
-  abbrev Made : Type 0
-  Made = (text : List ℕ) × (n.files out ≡ Some text) × IsWellMadeSystem ls designs s.wires text
+  abbrev Made : (List ℕ → Type 0) → Type 0
+  Made P = (text : List ℕ) × (n.files out ≡ Some text) × P text
 
-  wired : Cause (asks (link lattice system out)) t done → Written (asks_wired ls s.wires out designs) t n.files → Made
+  wired : Cause (asks (link lattice system out)) t done → Written (asks_wired ls s.wires out designs) t n.files → Made (IsLinkedText ls designs s.wires)
   wired cause (Some fault, first, same) = absurd (no_fault lattice system out answer t n ls s designs fault are first cause)
-  wired cause (None, keeps, (text, linked, files)) =
-      (text, ap (λ (fs : Files). fs out) files ∙ at_name-same out (Some text) t.files, of_system ls designs s.wires text linked)
+  wired cause (None, keeps, (text, linked, files)) = (text, ap (λ (fs : Files). fs out) files ∙ at_name-same out (Some text) t.files, linked)
 
-  linked : Cause (asks (link lattice system out)) t done → Written (asks (link lattice system out)) t n.files → Made
+  linked : Cause (asks (link lattice system out)) t done → Written (asks (link lattice system out)) t n.files → Made (IsLinkedText ls designs s.wires)
   linked cause more =
       let behind = past_written t n.files lattice lattice_file (λ l. file system system_file (λ x. asks_parts l x.parts (asks_wired l x.wires out))) lattice_lawful ls are.levels more in
       let further = past_written t n.files system system_file (λ x. asks_parts ls x.parts (asks_wired ls x.wires out)) system_lawful s are.lists behind in
       wired cause (past_parts t n.files ls s.parts designs (asks_wired ls s.wires out) are.parts further)
+
+  well_made_system : Cause (asks (link lattice system out)) t done → Written (asks (link lattice system out)) t n.files → Made (IsWellMadeSystem ls designs s.wires)
+  well_made_system cause more = let (text, left, is) = linked cause more in (text, left, of_system ls designs s.wires text is)
+
+  explained_system : Cause (asks (link lattice system out)) t done → Written (asks (link lattice system out)) t n.files
+      → Made (λ text. (net : Net) × IsExplained (system_explanation ls designs) text net)
+  explained_system cause more =
+      let (text, left, is) = linked cause more in
+      let (net, is_module, of_wires, small, explained) = is in
+      (text, left, (net, explained))
 
 tidy : (words : List (List ℕ)) (lost now answer : ℕ) (t n : Told) → Answers words lost now answer t n → WritesWellMade words answer t n
 tidy words lost now answer t n a = record {
   compiles = λ lattice design out is zero ls d has formed.
       well_made lattice design out t n ls d has formed (written words lost now answer t n a zero (compile lattice design out) is);
   links = λ lattice system out is zero ls s designs are.
-      linked lattice system out answer t n ls s designs are (caused words lost now answer t n a zero (link lattice system out) is)
+      well_made_system lattice system out answer t n ls s designs are (caused words lost now answer t n a zero (link lattice system out) is)
       (written words lost now answer t n a zero (link lattice system out) is);
 }
 
 explains : (words : List (List ℕ)) (lost now answer : ℕ) (t n : Told) → Answers words lost now answer t n → Explains words answer t n
-explains words lost now answer t n a = λ lattice design out is zero ls d has formed.
-    explained lattice design out t n ls d has formed (written words lost now answer t n a zero (compile lattice design out) is)
+explains words lost now answer t n a = record {
+  compiles = λ lattice design out is zero ls d has formed.
+      explained lattice design out t n ls d has formed (written words lost now answer t n a zero (compile lattice design out) is);
+  links = λ lattice system out is zero ls s designs are.
+      explained_system lattice system out answer t n ls s designs are (caused words lost now answer t n a zero (link lattice system out) is)
+      (written words lost now answer t n a zero (link lattice system out) is);
+}
 
 -- ---- between what a desk tells before and after
 

@@ -1,8 +1,8 @@
 pub mod Answers
 pub mod Exact
-pub mod Explains
 pub mod Headline
 pub mod Links
+pub mod Explains
 pub mod Tidy
 pub mod Taints
 pub mod Waves
